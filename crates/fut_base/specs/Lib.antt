@@ -1,0 +1,11 @@
+pub mod Dag
+pub mod Events
+pub mod Laws
+pub mod Listed
+pub mod Memory
+pub mod Orders
+pub mod Ports
+pub mod Racing
+pub mod Rows
+pub mod Sound
+pub mod Tables

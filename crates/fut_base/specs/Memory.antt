@@ -1,0 +1,36 @@
+-- The source and the sink in memory, as contracts see them.
+use Rattle.std.specs.Prelude.{◌≡◌, ℕ, ◌<◌, min, Bool, true, false, List, [], length, Contains, ◌⊎◌}
+use Rattle.fut_base.specs.declared.ports.Took.{Took}
+use Rattle.fut_base.specs.declared.ports.Took.TheVariants as took
+use Rattle.fut_base.specs.declared.ports.Put.{Put}
+use Rattle.fut_base.specs.declared.ports.Put.TheVariants as put
+
+-- what a source in memory has left, how much it gives at most a call, how many calls were made and which fail
+pub record Given : Type 0 where
+  pub left : List ℕ
+  pub most : ℕ
+  pub calls : ℕ
+  pub fails : List ℕ
+  pub faults : ℕ
+  pub ended : Bool
+
+-- what a sink in memory holds, for how much more it has room, how much it takes at most a call, how many calls were
+-- made and which fail
+pub record Room : Type 0 where
+  pub bytes : List ℕ
+  pub room : ℕ
+  pub most : ℕ
+  pub calls : ℕ
+  pub fails : List ℕ
+  pub faults : ℕ
+
+-- a source fails exactly at its chosen calls, and else gives as much as it can
+abbrev pub TakesOf : Given → ℕ → Took → Type 0
+TakesOf s len (took.Bytes n) = (Contains s.fails s.calls → ⊥) × (n ≡ min (min s.most len) (length s.left))
+TakesOf s len took.End = (Contains s.fails s.calls → ⊥) × (s.left ≡ [])
+TakesOf s len took.Failed = Contains s.fails s.calls
+
+-- a sink fails exactly at its chosen calls and where it has no room, and else takes as much as it can
+abbrev pub PutsOf : Room → ℕ → Put → Type 0
+PutsOf s len (put.Took n) = (Contains s.fails s.calls → ⊥) × (n ≡ min (min s.most len) s.room)
+PutsOf s len put.Failed = (s.room ≡ 0) ⊎ Contains s.fails s.calls

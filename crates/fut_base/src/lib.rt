@@ -1,0 +1,15 @@
+//! What every layer of forder speaks of: the values, entries and histories of a run, lists whose room is asked for
+//! beforehand, and the outside world as a source, a sink and a gate.
+//!
+//! The layers above use the lists of `list`, the records of `record`, the traits of `ports` and `gate`, and the
+//! definitions of `specs/`: what a path, a race and a report are, the two orders, sound structures and tables.
+#![tactic(auto)]
+
+pub mod event;
+pub mod gate;
+pub mod list;
+pub mod memory;
+pub mod ports;
+pub mod record;
+pub mod rows;
+pub mod standard;
