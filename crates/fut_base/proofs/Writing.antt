@@ -40,3 +40,12 @@ stopped_early a b f g xs ys w =
     let part = w.0.0 in
     let rest = w.0.1 in
     ((part, rest ++ ys, ap (λ (l : List ℕ). l ++ ys) w.0.2 ∙ append_assoc part rest ys, w.0.3), w.1, w.2)
+
+-- what was written, the next part and those after it are all parts
+pub goes_on : (all done here after left : List ℕ) → all ≡ done ++ left → left ≡ here ++ after → all ≡ (done ++ here) ++ after
+goes_on all done here after left is next = is ∙ (ap (λ l. done ++ l) next ∙ sym (append_assoc done here after))
+
+-- a text of which some parts were written, and then a beginning of the next
+pub stopped_in : (a b c : Option (List ℕ)) (f g h : ℕ) (all done here after : List ℕ) → all ≡ (done ++ here) ++ after → Appends a b done → g ≡ f → Writes b c g h here Failed → Writes a c f h all Failed
+stopped_in a b c f g h all done here after is one same two =
+    subst (λ text. Writes a c f h text Failed) (sym is) (stopped_early a c f h (done ++ here) after (writes_after a b c f g h done here Failed one same two))
