@@ -1,1 +1,3 @@
 pub mod Pasts
+pub mod Paths
+pub mod Spreading

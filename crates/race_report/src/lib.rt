@@ -4,4 +4,9 @@
 #![tactic(auto)]
 
 pub mod edges;
+pub mod found;
+pub mod laws;
+pub mod pairs;
 pub mod search;
+
+pub use found::found_of;
