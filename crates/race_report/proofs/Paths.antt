@@ -41,7 +41,7 @@ among_at (x ∷ xs) zero d h = inl refl
 among_at (x ∷ xs) (suc i) d h = inr (among_at xs i d (omega arith))
 
 -- what holds of each item holds of each that is among them
-all_among : {X : Type 0} (P : X → Type 0) (xs : List X) → All P xs → (x : X) → Among x xs → P x
+pub all_among : {X : Type 0} (P : X → Type 0) (xs : List X) → All P xs → (x : X) → Among x xs → P x
 all_among P [] all x h = absurd h
 all_among P (y ∷ xs) all x (inl same) = subst P same (All-head P y xs all)
 all_among P (y ∷ xs) all x (inr h) = all_among P xs (All-tail P y xs all) x h
