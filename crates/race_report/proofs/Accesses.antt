@@ -75,6 +75,6 @@ races_rival h c a b access joined mb has race =
     let ma = makes a.action other.0 other.1 in
     let same : other.0.cell ≡ access.cell = ma.only c race.one ∙ sym (mb.only c race.other) in
     let conflict : is_conflict access (access_of a.action) ≡ true =
-        ap (is_conflict access) other.1 ∙ conflict_from access other.0 same (elim race.write [ inl w ↦ inl (ma.wrote w) | inr w ↦ inr (mb.wrote w) ]) in
+    ap (is_conflict access) other.1 ∙ conflict_from access other.0 same (elim race.write [ inl w ↦ inl (ma.wrote w) | inr w ↦ inr (mb.wrote w) ]) in
     let apart : is_joined joined a.strand ≡ false = false_from_ne_true (is_joined joined a.strand) (λ t. race.apart ((has a.strand).0 t)) in
     and_from (is_conflict access (access_of a.action)) (not (is_joined joined a.strand)) conflict (not_from_false (is_joined joined a.strand) apart)

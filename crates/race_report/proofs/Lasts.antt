@@ -46,4 +46,6 @@ module _ (h : List Event) (j : ℕ) (b : Event) (at : slice_get h j ≡ Some b) 
       elim (cases_lt i m) [
         | inl later ↦ absurd (both_ways (is_rival access joined race.events.0) (last.3 m race.events.0 later (to_take h j m race.events.0 race.order race.events.2)) (partner_of c m race))
         | inr le ↦ le
-      ]))
+      ],
+    ),
+  )

@@ -107,4 +107,5 @@ joined_iff edges before after at back on v = (
   (λ j. elim j [
     | inl r ↦ or_left (before v) (after v) ((back v).1 (reaches_turned edges at v r))
     | inr r ↦ or_right (before v) (after v) ((on v).1 r)
-  ]))
+  ]),
+)

@@ -37,7 +37,8 @@ rising : (es : List (ℕ × Race)) → IsStrictlySortedBy nat_cmp (keys_of es) �
 rising [] sorted kept = tt
 rising (e ∷ es) sorted kept = (
   above e.0 e.1.cell (All-head IsKept e es kept) es (sorted_head nat_cmp e.0 (keys_of es) sorted) (All-tail IsKept e es kept),
-  rising es (sorted_tail nat_cmp e.0 (keys_of es) sorted) (All-tail IsKept e es kept))
+  rising es (sorted_tail nat_cmp e.0 (keys_of es) sorted) (All-tail IsKept e es kept),
+)
 
 pair_of : (h : List Event) (n c : ℕ) (o : Option Race) → IsFoundBefore h n c o → (i j : ℕ) → j < n → PlacesRace h c i j → (r : Race) × (o ≡ Some r) × (r.cell ≡ c)
 pair_of h n c None before i j lt race = absurd (before i j lt race)
@@ -99,21 +100,21 @@ same_rising (x ∷ xs) (y ∷ ys) rx ry to from =
     let heads : x ≡ y = elim (to x (inl refl)) [
       | inl same ↦ sym same
       | inr later ↦ elim (from y (inl refl)) [
-          | inl same ↦ same
-          | inr behind ↦ absurd (omega (arith, after_y x later, after_x y behind))
-        ]
+        | inl same ↦ same
+        | inr behind ↦ absurd (omega (arith, after_y x later, after_x y behind))
+      ]
     ] in
     let cells : x.cell ≡ y.cell = ap (λ (r : Race). r.cell) heads in
     let tails : xs ≡ ys =
-        same_rising xs ys rx.1 ry.1
-        (λ r h. elim (to r (inr h)) [
-          | inl same ↦ absurd (omega (arith, cells, ap (λ (s : Race). s.cell) same, after_x r h))
-          | inr there ↦ there
-        ])
-        (λ r h. elim (from r (inr h)) [
-          | inl same ↦ absurd (omega (arith, cells, ap (λ (s : Race). s.cell) same, after_y r h))
-          | inr there ↦ there
-        ]) in
+    same_rising xs ys rx.1 ry.1
+    (λ r h. elim (to r (inr h)) [
+      | inl same ↦ absurd (omega (arith, cells, ap (λ (s : Race). s.cell) same, after_x r h))
+      | inr there ↦ there
+    ])
+    (λ r h. elim (from r (inr h)) [
+      | inl same ↦ absurd (omega (arith, cells, ap (λ (s : Race). s.cell) same, after_y r h))
+      | inr there ↦ there
+    ]) in
     ap (λ r. r ∷ xs) heads ∙ ap (λ l. y ∷ l) tails
 
 pub one_report : (h : List Event) (xs ys : List Race) → IsReport h xs → IsReport h ys → xs ≡ ys

@@ -50,11 +50,7 @@ fn spread(reached: &mut BTreeSet<u32>, steps: &[Edge]) -> Result<(), NoMemory>
 }
 
 /// The strands to which paths of the steps lead from `start`, itself among them.
-pub fn reached_from(
-    alloc: Global,
-    steps: &[Edge],
-    start: u32,
-) -> Result<BTreeSet<u32>, NoMemory>
+pub fn reached_from(alloc: Global, steps: &[Edge], start: u32) -> Result<BTreeSet<u32>, NoMemory>
     ensures { IfOk result (λ reached. (v : ℕ) → IsTrue (has reached v) ↔ ReachesBy (map ends_of steps.now) start v) }
 {
     let mut reached = BTreeSet::new(alloc);

@@ -10,4 +10,5 @@ returns-then-len-before c =
     let closed = ends.closed (omega (arith, c.len.ensures.len, c.len-before.ensures.len)) in
     λ v. (
       ends.sound c.args.start c.loop-reached.invariant.sound v,
-      λ r. stays_inside c.args.steps.now (has set) closed c.args.start v r (ends.kept c.args.start c.loop-reached.invariant.begun))
+      λ r. stays_inside c.args.steps.now (has set) closed c.args.start v r (ends.kept c.args.start c.loop-reached.invariant.begun),
+    )

@@ -13,7 +13,7 @@ returns c =
     let after = c.in_ok-after.after in
     let here : c.as_slice.result.now ≡ map turn (reverse edges) = c.as_slice.ensures.value ∙ c.requires in
     let back : (v : ℕ) → IsTrue (has before v) ↔ ReachesBy (map ends_of (map turn (reverse edges))) at v =
-        subst (λ es. (v : ℕ) → IsTrue (has before v) ↔ ReachesBy (map ends_of es) at v) here c.in_ok-before.ensures in
+    subst (λ es. (v : ℕ) → IsTrue (has before v) ↔ ReachesBy (map ends_of es) at v) here c.in_ok-before.ensures in
     let on : (v : ℕ) → IsTrue (has after v) ↔ ReachesBy (map ends_of edges) at v =
-        subst (λ es. (v : ℕ) → IsTrue (has after v) ↔ ReachesBy (map ends_of es) at v) c.as_slice-2.ensures.value c.in_ok-after.ensures in
+    subst (λ es. (v : ℕ) → IsTrue (has after v) ↔ ReachesBy (map ends_of es) at v) c.as_slice-2.ensures.value c.in_ok-after.ensures in
     joined_iff edges (has before) (has after) at back on
