@@ -1,6 +1,6 @@
 -- The code's tests of accesses, and the definition of a race.
-use Rattle.std.proofs.Common.{◌≡◌, ℕ, Bool, true, false, refl, sym, ◌∙◌, ap, subst, inl, inr, ◌⊎◌, eq-eqb}
-use Rattle.std.specs.Prelude.{Option, Some, None, List, not, ◌&&◌, ◌||◌, ◌==◌, IsTrue, ◌↔◌}
+use Rattle.std.proofs.Common.{◌≡◌, ℕ, true, false, refl, sym, ◌∙◌, ap, subst, inl, inr, ◌⊎◌, eq-eqb}
+use Rattle.std.specs.Prelude.{Option, Some, None, List, not, ◌||◌, ◌==◌, IsTrue, ◌↔◌}
 use Rattle.std.proofs.lemmas.Bool.{false≢true, and_parts, and_from, or_cases, or_left, or_right, eqb-true, not-true, not_from_false, false_from_ne_true, both_ways}
 use Rattle.std.proofs.lemmas.Option.{none-some, same_Some}
 use Rattle.fut_base.specs.declared.event.Event.{Event}

@@ -1,10 +1,9 @@
 -- The race of a place with its greatest earlier partner.
-use Rattle.std.proofs.Common.{◌≡◌, ℕ, ◌<◌, ◌≤◌, true, false, List, take, refl, sym, ◌∙◌, subst, inl, inr}
-use Rattle.std.specs.Prelude.{slice_get, Option, Some, None, option_map}
+use Rattle.std.proofs.Common.{◌≡◌, ℕ, true, List, take, refl, sym, ◌∙◌, subst, inl, inr}
+use Rattle.std.specs.Prelude.{slice_get, Some, None}
 use Rattle.std.proofs.lemmas.Bool.{cases_lt, both_ways}
 use Rattle.std.proofs.lemmas.Option.{none-some}
 use Rattle.fut_base.specs.declared.event.Event.{Event}
-use Rattle.fut_base.specs.declared.record.Race.{Race}
 use Rattle.fut_base.specs.Racing.{IsAccess, AreRacing, PlacesRace}
 use Rattle.race_report.specs.declared.pairs.Access.{Access}
 use Rattle.race_report.specs.declared.search.Joined.{Joined}

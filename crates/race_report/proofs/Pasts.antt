@@ -1,6 +1,5 @@
 -- One more entry, and what the definitions make of it.
 use Rattle.std.proofs.Common.{◌≡◌, ℕ, ◌+◌, ◌<◌, List, [], ◌∷◌, ◌++◌, length, take, get_or, map, reverse, ◌∙◌, ap, sym, Option, append_assoc}
-use Rattle.std.specs.Prelude.{filter_map}
 use Rattle.std.proofs.lemmas.List.{map_more, reverse-append, take_more}
 use Rattle.std.proofs.lemmas.List.Elements.{filter_map-append}
 use Rattle.fut_base.specs.declared.record.Entry.{Entry}

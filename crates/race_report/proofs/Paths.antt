@@ -1,5 +1,5 @@
 -- Paths that are made longer at the end, turned round, or kept inside a closed set.
-use Rattle.std.proofs.Common.{◌≡◌, ℕ, ◌<◌, Bool, true, List, [], ◌∷◌, ◌++◌, length, get_or, zero, suc, map, reverse, inl, inr, ◌⊎◌, sym, subst, refl, ap, arith}
+use Rattle.std.proofs.Common.{◌≡◌, ℕ, ◌<◌, Bool, true, List, [], ◌∷◌, ◌++◌, length, get_or, zero, suc, map, reverse, inl, inr, sym, subst, refl, ap, arith}
 use Rattle.std.specs.Prelude.{All, IsTrue, ◌↔◌, ◌||◌}
 use Rattle.std.proofs.lemmas.Bool.{or_cases, or_left, or_right}
 use Rattle.std.proofs.lemmas.List.{reverse-append, reverse-reverse}

@@ -1,7 +1,7 @@
 -- One step followed, and what it does to the set of strands that are reached so far.
-use Rattle.std.proofs.Common.{◌≡◌, ℕ, ◌+◌, ◌<◌, ◌≤◌, Bool, true, false, List, length, take, get_or, ◌∙◌, sym, subst, arith, ⊎_elim, inl, inr}
+use Rattle.std.proofs.Common.{◌≡◌, ℕ, ◌+◌, ◌<◌, ◌≤◌, Bool, true, false, List, length, take, get_or, ◌∙◌, sym, subst, arith, inl, inr}
 use Rattle.std.specs.Prelude.{All, ◌||◌, ◌&&◌, ◌==◌, not, if◌then◌else◌, map}
-use Rattle.std.proofs.lemmas.Bool.{or_cases, and_parts, eqb-true, or_left, cases_Bool}
+use Rattle.std.proofs.lemmas.Bool.{or_cases, and_parts, eqb-true, or_left}
 use Rattle.std.proofs.lemmas.List.Elements.{All-more, All-weaker}
 use Rattle.fut_base.specs.Dag.{ReachesBy}
 use Rattle.race_report.specs.declared.edges.Edge.{Edge}

@@ -1,4 +1,4 @@
-use Rattle.std.proofs.Common.{arith, map, get_or}
+use Rattle.std.proofs.Common.{arith, map}
 use Rattle.race_report.specs.Edges.{past_of, ends_of}
 use Rattle.race_report.proofs.Pasts.{joined_more}
 use Rattle.race_report.proofs.edges.add_joins.Goals as goal

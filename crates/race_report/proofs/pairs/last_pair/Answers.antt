@@ -2,17 +2,16 @@ use Rattle.std.proofs.Common.{ℕ, List, map, take, sym, subst}
 use Rattle.std.specs.Prelude.{Option, None, Some, IsTrue, ◌↔◌}
 use Rattle.std.proofs.lemmas.List.{take-map}
 use Rattle.fut_base.specs.declared.record.Entry.{Entry}
-use Rattle.fut_base.specs.declared.event.Event.{Event}
 use Rattle.fut_base.specs.Events.{event_of}
-use Rattle.fut_base.specs.Dag.{AreJoinedBy, edges_past}
+use Rattle.fut_base.specs.Dag.{AreJoinedBy}
 use Rattle.race_report.specs.declared.pairs.Access.{Access}
 use Rattle.race_report.specs.declared.search.Dag.{Dag}
 use Rattle.race_report.specs.declared.search.Joined.{Joined}
-use Rattle.race_report.specs.Edges.{past_of, ends_of}
+use Rattle.race_report.specs.Edges.{ends_of}
 use Rattle.race_report.specs.Search.{is_joined, IsDagOf}
 use Rattle.race_report.specs.Pairs.{is_rival, IsLastPlace}
 use Rattle.race_report.proofs.Accesses.{HasJoined}
-use Rattle.race_report.proofs.Lasts.{no_access, no_partner, last_partner}
+use Rattle.race_report.proofs.Lasts.{no_partner, last_partner}
 use Rattle.race_report.proofs.Places.{event_at}
 use Rattle.race_report.proofs.pairs.last_pair.Goals as goal
 

@@ -1,4 +1,4 @@
-use Rattle.std.proofs.Common.{arith, sym, ◌∙◌}
+use Rattle.std.proofs.Common.{arith}
 use Rattle.race_report.specs.Search.{has}
 use Rattle.race_report.proofs.Paths.{stays_inside}
 use Rattle.race_report.proofs.search.reached_from.Goals as goal
