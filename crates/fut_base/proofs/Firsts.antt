@@ -1,5 +1,5 @@
 -- The first pair of a cell whose first racing access is the first write of all.
-use Rattle.std.proofs.Common.{◌≡◌, ℕ, ◌+◌, ◌<◌, ◌≤◌, Bool, true, false, List, [], ◌∷◌, take, zero, suc, refl, sym, subst, inl, inr, ◌∙◌, arith, eq-eqb}
+use Rattle.std.proofs.Common.{◌≡◌, ℕ, ◌<◌, ◌≤◌, Bool, true, false, List, [], ◌∷◌, take, zero, suc, refl, subst, inl, inr, ◌∙◌, arith, eq-eqb}
 use Rattle.std.specs.Prelude.{slice_get, Some, not, ◌&&◌, ◌==◌}
 use Rattle.std.proofs.lemmas.Bool.{cases_lt, and_parts, not-true, both_ways}
 use Rattle.std.proofs.lemmas.Option.{none-some, same_Some}

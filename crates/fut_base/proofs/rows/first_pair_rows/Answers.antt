@@ -1,4 +1,4 @@
-use Rattle.std.proofs.Common.{[], refl, inl, inr, lit<, ◌==◌}
+use Rattle.std.proofs.Common.{refl, inl, inr, lit<, ◌==◌}
 use Rattle.std.specs.Prelude.{◌||◌, pos}
 use Rattle.fut_base.specs.Events.{Reads, Writes}
 use Rattle.fut_base.specs.Dag.{edges_of, AreJoined}
