@@ -1,9 +1,9 @@
 -- Runs worked out by hand, and what the definitions make of them.
 use Rattle.std.specs.Prelude.{◌≡◌, ℕ, pos, true, false, List, [], ◌∷◌}
 use Rattle.fut_base.specs.declared.record.Value.TheVariants.{Int, Fut}
-use Rattle.fut_base.specs.Events.{Event, Action, Writes, Spawns, Creates, Syncs, Gets, Ends, structure_of}
+use Rattle.fut_base.specs.Events.{Event, Action, Reads, Writes, Spawns, Creates, Syncs, Gets, Ends, structure_of}
 use Rattle.fut_base.specs.Dag.{edges_of, Reaches, AreJoined}
-use Rattle.fut_base.specs.Racing.{PlacesRace}
+use Rattle.fut_base.specs.Racing.{PlacesRace, IsFirstPair}
 use Rattle.fut_base.specs.Orders.{english_of, hebrew_of, precedes}
 use Rattle.fut_base.specs.Sound.{IsSound}
 use Rattle.fut_base.specs.Tables.{table_of}
@@ -36,6 +36,22 @@ chain_run =
     ∷ ev 0 2 (Creates 1 2 3 4 (Fut 1 ∷ [])) ∷ ev 2 3 (Gets 1 (Int (pos 1)) 5) ∷ ev 2 5 (Ends (Int (pos 1)))
     ∷ ev 0 4 (Gets 2 (Int (pos 1)) 6) ∷ ev 0 6 (Writes 0 (pos 2)) ∷ ev 0 6 (Ends (Int (pos 1))) ∷ []
 
+-- three children read, and a fourth writes
+abbrev pub readers_run : List Event
+readers_run =
+    ev 0 0 (Spawns 0 1 1 2 []) ∷ ev 1 1 (Reads 0 (pos 0)) ∷ ev 1 1 (Ends (Int (pos 0)))
+    ∷ ev 0 2 (Spawns 0 2 3 4 []) ∷ ev 2 3 (Reads 0 (pos 0)) ∷ ev 2 3 (Ends (Int (pos 0)))
+    ∷ ev 0 4 (Spawns 0 3 5 6 []) ∷ ev 3 5 (Reads 0 (pos 0)) ∷ ev 3 5 (Ends (Int (pos 0)))
+    ∷ ev 0 6 (Spawns 1 4 7 8 []) ∷ ev 4 7 (Writes 0 (pos 1)) ∷ ev 4 7 (Ends (Int (pos 0)))
+    ∷ ev 0 8 (Syncs 9) ∷ ev 0 9 (Ends (Int (pos 0))) ∷ []
+
+-- a child reads on two strands, and another writes
+abbrev pub twice_run : List Event
+twice_run =
+    ev 0 0 (Spawns 0 1 1 2 []) ∷ ev 1 1 (Reads 0 (pos 0)) ∷ ev 1 1 (Syncs 3) ∷ ev 1 3 (Reads 0 (pos 0)) ∷ ev 1 3 (Ends (Int (pos 0)))
+    ∷ ev 0 2 (Spawns 1 2 4 5 []) ∷ ev 2 4 (Writes 0 (pos 1)) ∷ ev 2 4 (Ends (Int (pos 0)))
+    ∷ ev 0 5 (Syncs 6) ∷ ev 0 6 (Ends (Int (pos 0))) ∷ []
+
 -- what holds of the first run
 pub record SpawnRow : Type 0 where
   pub edges_are : edges_of spawn_run ≡ (0, 1) ∷ (0, 2) ∷ (2, 3) ∷ (1, 3) ∷ []
@@ -62,3 +78,8 @@ pub record TableRow : Type 0 where
   pub four : table_of (structure_of chain_run) 4 ≡ []
   pub five : table_of (structure_of chain_run) 5 ≡ 2 ∷ 1 ∷ []
   pub six : table_of (structure_of chain_run) 6 ≡ 5 ∷ 1 ∷ []
+
+-- of several partners the last one is named
+pub record FirstPairRows : Type 0 where
+  pub readers : IsFirstPair readers_run 0 7 10
+  pub twice : IsFirstPair twice_run 0 3 6

@@ -1,0 +1,21 @@
+use Rattle.std.proofs.Common.{◌≡◌, ◌+◌, ◌-◌, arith, sym}
+use Rattle.fut_base.specs.Events.{event_of}
+use Rattle.race_report.specs.Pairs.{is_rival}
+use Rattle.race_report.proofs.Places.{event_at, none_from_here}
+use Rattle.race_report.proofs.pairs.partner.Goals as goal
+
+pub returns-then-is_rival : goal.returns-then-is_rival
+returns-then-is_rival c =
+    let e = c.index-entries-place.result in (
+      event_of e,
+      event_at c.args.entries.now (c.loop-place.place - 1) e (omega arith) c.index-entries-place.is,
+      sym c.if-is_rival.ensures,
+      λ k y lt there. c.loop-place.invariant k y (omega arith) there,
+    )
+
+pub loop-place-preserved : goal.loop-place-preserved
+loop-place-preserved c =
+    let e = c.index-entries-place.result in
+    let i = c.loop-place.place - 1 in
+    let next : c.loop-place.place ≡ i + 1 = omega arith in
+    none_from_here (is_rival c.args.access c.args.joined.now) _ i c.loop-place.place (event_of e) next (event_at c.args.entries.now i e (omega arith) c.index-entries-place.is) (sym c.if-is_rival.ensures) c.loop-place.invariant
