@@ -1,0 +1,4 @@
+pub mod Leading
+pub mod Making
+pub mod Places
+pub mod Stepping
