@@ -1,3 +1,4 @@
+pub mod Coding
 pub mod Leading
 pub mod Making
 pub mod Places

@@ -1,3 +1,4 @@
+pub mod Flat
 pub mod Laws
 pub mod Machine
 pub mod Rows
@@ -6,3 +7,4 @@ pub mod State
 pub mod Texts
 pub mod Values
 pub mod Variables
+pub mod Views

@@ -1,6 +1,7 @@
 -- The cells and the tasks of a program.
 use Rattle.std.specs.Prelude.{ℕ, ◌+◌, if◌then◌else◌, List, [], ◌∷◌, slice_get, Option, Some, None, unwrap_or, ℤ, bytes_eq, codes}
 use Rattle.fut_syntax.specs.Trees as tree
+use Rattle.fut_syntax.specs.Small.{items_of}
 use Rattle.task_machine.specs.Values.{index_of}
 
 -- an array of cells: its name, the number of its first cell, and its length
@@ -15,9 +16,6 @@ pub record TaskText : Type 0 where
   pub params : List tree.Param
   pub body : tree.Block
 
-abbrev pub items_of : tree.Program → List tree.Item
-items_of P = P.first ∷ P.others
-
 abbrev pub arrays_from : ℕ → List tree.Item → List CellArray
 arrays_from n [] = []
 arrays_from n (tree.CellsOf name length ∷ rest) = record { name = name; first = n; length = length } ∷ arrays_from (n + length) rest
@@ -27,13 +25,14 @@ arrays_from n (tree.TaskOf _ _ _ _ ∷ rest) = arrays_from n rest
 abbrev pub cell_arrays : tree.Program → List CellArray
 cell_arrays P = arrays_from 0 (items_of P)
 
-abbrev pub count_cells : List CellArray → ℕ
+abbrev pub count_cells : List tree.Item → ℕ
 count_cells [] = 0
-count_cells (a ∷ rest) = a.length + count_cells rest
+count_cells (tree.CellsOf _ length ∷ rest) = length + count_cells rest
+count_cells (tree.TaskOf _ _ _ _ ∷ rest) = count_cells rest
 
 -- how many cells all arrays have together
 abbrev pub cell_count : tree.Program → ℕ
-cell_count P = count_cells (cell_arrays P)
+cell_count P = count_cells (items_of P)
 
 abbrev pub tasks_from : List tree.Item → List TaskText
 tasks_from [] = []
@@ -51,19 +50,22 @@ abbrev pub number_from : ℕ → List TaskText → List ℕ → Option ℕ
 number_from n [] word = None
 number_from n (t ∷ ts) word = if bytes_eq t.name word then Some n else number_from (n + 1) ts word
 
--- the place of the first task with a name, among the tasks
+-- the place of the first task with a name, among the tasks of these items
+abbrev pub find_task : List tree.Item → List ℕ → Option ℕ
+find_task items word = number_from 0 (tasks_from items) word
+
 abbrev pub task_number : tree.Program → List ℕ → Option ℕ
-task_number P word = number_from 0 (tasks_of P) word
+task_number P word = find_task (items_of P) word
 
 -- the place of `main`
 abbrev pub main_of : tree.Program → ℕ
 main_of P = unwrap_or (task_number P (codes "main")) 0
 
+-- the number of the cell at an index of the first array with a name
 abbrev pub find_cell : List CellArray → List ℕ → ℤ → Option ℕ
 find_cell [] word z = None
 find_cell (a ∷ rest) word z = if bytes_eq a.name word then Some (a.first + index_of a.length z) else find_cell rest word z
 
--- the number of the cell at an index of the first array with a name
 abbrev pub cell_at : tree.Program → List ℕ → ℤ → Option ℕ
 cell_at P word z = find_cell (cell_arrays P) word z
 

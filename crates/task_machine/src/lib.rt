@@ -2,4 +2,8 @@
 //! The layer above uses the definitions `IsStep`, `Leads`, `IsLegal`, `IsWhole` and `FinishHolds`, and `Code` and `Task`.
 #![tactic(auto)]
 
+pub mod code;
+pub mod instruction;
 pub mod laws;
+pub mod task;
+pub mod trace;
