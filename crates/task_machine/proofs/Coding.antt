@@ -1,6 +1,7 @@
 -- What a small program gives the making of its code.
 use Rattle.std.proofs.Common.{◌≡◌, ℕ, zero, suc, ◌+◌, ◌<◌, ◌≤◌, Bool, true, false, cond, List, [], ◌∷◌, ◌++◌, length, drop, ◌⊎◌, inl, inr, refl, sym, ap, ◌∙◌, subst, arith}
-use Rattle.std.specs.Prelude.{◌^◌, ℤ, pos, Option, Some, None, IsSomeAnd, bytes_eq}
+use Rattle.std.specs.Prelude.{◌^◌, ℤ, pos, Option, Some, None, IsSomeAnd, bytes_eq, nat_lt}
+use Rattle.std.proofs.lemmas.Bool.{ltb-true, ltb-false}
 use Rattle.std.proofs.lemmas.List.{append-nil}
 use Rattle.std.proofs.lemmas.Slice.Eq.{bytes_eq-Decides}
 use Rattle.fut_base.specs.Dag.{Among}
@@ -12,7 +13,7 @@ use Rattle.task_machine.specs.declared.instruction.Instruction.{Instruction}
 use Rattle.task_machine.specs.Variables.{number_in}
 use Rattle.task_machine.specs.Texts.{CellArray, TaskText, arrays_from, count_cells, tasks_from, number_from, find_cell, stmts_of}
 use Rattle.task_machine.specs.Views.{item_tree, items_tree, block_tree, program_tree}
-use Rattle.task_machine.specs.Flat.{DoAll, AreCodesOf, Fits, ArraysFit, literal_of}
+use Rattle.task_machine.specs.Flat.{DoAll, AreCodesOf, Fits, ArraysFit, literal_of, Compiled, IsCodeOf, HasCell}
 
 -- ---- names that are found
 
@@ -99,6 +100,10 @@ arrays_fit : (first : tree.Item) (rest : List tree.Item) → AreTasks rest → L
 arrays_fit (tree.CellsOf name n) rest tasks fit = (omega (arith, fit.0), omega (arith, fit.1), subst ArraysFit (sym (no_arrays rest (0 + n) tasks)) tt)
 arrays_fit (tree.TaskOf name params depth body) rest tasks fit = subst ArraysFit (sym (no_arrays rest 0 tasks)) tt
 
+few_arrays : (first : tree.Item) (rest : List tree.Item) → AreTasks rest → length (arrays_from 0 (first ∷ rest)) ≤ 65536
+few_arrays (tree.CellsOf name n) rest tasks = omega (arith, ap length (no_arrays rest (0 + n) tasks))
+few_arrays (tree.TaskOf name params depth body) rest tasks = omega (arith, ap length (no_arrays rest 0 tasks))
+
 each_fits : (items : List tree.Item) (body : tree.Block) → EachStmt IsSmallStmt body → EachStmt (WritesAmong (array_names items)) body → EachStmt (SpawnsAmong (task_names items)) body → EachStmt (Fits items) body
 each_fits items tree.Done a b c = tt
 each_fits items (tree.Then s rest) a b c = (record { small = a.0; writes = b.0; spawns = c.0 }, each_fits items rest a.1 b.1 c.1)
@@ -115,6 +120,7 @@ pub record CanBeMade (items : List tree.Item) : Type 0 where
   pub tasks : length (tasks_from items) < 2 ^ 32
   pub statements : EachStmtOf (Fits items) items
   pub bare : AreBare items
+  pub few_arrays : length (arrays_from 0 items) ≤ 65536
 
 can_be_made : (P : tree.Program) → IsSmall P → CanBeMade (items_of P)
 can_be_made P s =
@@ -124,6 +130,7 @@ can_be_made P s =
       tasks = omega (arith, task_count (items_of P), s.few_tasks);
       statements = all_fit (items_of P) (items_of P) s.statements s.writes s.spawns;
       bare = s.bare;
+      few_arrays = few_arrays P.first P.others s.array_first;
     }
 
 pub small_can_be_made : (xs : List Item) → IsSomeAnd (program_tree xs) IsSmall → CanBeMade (items_tree xs)
@@ -139,3 +146,31 @@ cell_is_there items arrays word read z result a w r none among =
 pub task_is_there : (items : List tree.Item) (word read : List ℕ) (result : Option ℕ) → read ≡ word → result ≡ number_from 0 (tasks_from items) read → result ≡ None → Among word (task_names items) → ⊥
 task_is_there items word read result w r none among =
     found_task items 0 word among (subst (λ (v : List ℕ). number_from 0 (tasks_from items) v ≡ None) w (sym r ∙ none))
+
+-- ---- the array that has a cell
+
+tested : (b : Bool) → (b ≡ true) ⊎ (b ≡ false)
+tested true = inl refl
+tested false = inr refl
+
+split : (a b : ℕ) → (a < b) ⊎ (b ≤ a)
+split a b = elim (tested (nat_lt a b)) [ inl e ↦ inl (ltb-true a b e) | inr e ↦ inr (ltb-false a b e) ]
+
+arrays_cover : (items : List tree.Item) (f cell : ℕ) → f ≤ cell → cell < f + count_cells items → HasCell cell (arrays_from f items)
+arrays_cover [] f cell low high = omega arith
+arrays_cover (tree.CellsOf name n ∷ rest) f cell low high =
+    elim (split cell (f + n)) [
+      | inl below ↦ inl (low, below)
+      | inr above ↦ inr (arrays_cover rest (f + n) cell above (omega arith))
+    ]
+arrays_cover (tree.TaskOf name params depth body ∷ rest) f cell low high = arrays_cover rest f cell low high
+
+pub code_covers : (P : tree.Program) (code : Compiled) (cell : ℕ) → IsCodeOf P code → cell < code.cells → HasCell cell code.arrays
+code_covers P code cell is below = subst (HasCell cell) (sym is.arrays) (arrays_cover (items_of P) 0 cell (omega arith) (omega (arith, is.cells)))
+
+none_after : (xs : List CellArray) (i cell : ℕ) → length xs ≤ i → HasCell cell (drop i xs) → ⊥
+none_after xs i cell le h = subst (HasCell cell) (nothing_left xs i le) h
+
+-- the search for a cell that some array has does not come to its end
+pub cell_not_passed : (P : tree.Program) (code : Compiled) (cell i : ℕ) (read : List CellArray) → read ≡ code.arrays → IsCodeOf P code → cell < code.cells → length read ≤ i → (HasCell cell read → HasCell cell (drop i read)) → ⊥
+cell_not_passed P code cell i read same is below le keeps = none_after read i cell le (keeps (subst (HasCell cell) (sym same) (code_covers P code cell is below)))

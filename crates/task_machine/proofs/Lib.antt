@@ -3,3 +3,4 @@ pub mod Leading
 pub mod Making
 pub mod Places
 pub mod Stepping
+pub mod Tasking

@@ -1,13 +1,14 @@
 //! The flat code of a program.
 ghost use Rattle.std.specs.Prelude.{◌≡◌, ◌+◌, ◌<◌, ◌≤◌, ◌^◌, List, [], ◌∷◌, length, map, slice_get, unwrap_or, pos, IfOk, IfSome, IsSome, IsSomeAnd, ℕ};
 ghost use Rattle.std.specs.Str.{IsUtf8};
+ghost use Rattle.fut_syntax.specs.Trees as tree;
 ghost use Rattle.fut_syntax.specs.Trees.{Alone, Signed, NoSign};
 ghost use Rattle.fut_syntax.specs.Small.{IsSmall, IsLiteral, EachStmt, EachStmtOf, AreBare};
 ghost use Rattle.fut_base.specs.declared.record.Value.TheVariants.{Int};
 ghost use Rattle.task_machine.specs.Variables.{value_in, number_in};
 ghost use Rattle.task_machine.specs.Views.{expr_tree, primary_tree, stmt_tree, block_tree, items_tree, program_tree};
 ghost use Rattle.task_machine.specs.Texts.{CellArray as Cells, arrays_from, count_cells, tasks_from, number_from, find_cell, stmts_of};
-ghost use Rattle.task_machine.specs.Flat.{Does, DoAll, AreCodesOf, IsCodeOf, Fits, ArraysFit, literal_of, instructions_of, instruction_at};
+ghost use Rattle.task_machine.specs.Flat.{Does, DoAll, AreCodesOf, IsCodeOf, Fits, ArraysFit, literal_of, IsCellOf, instructions_of, instruction_at, next_place};
 
 use crate::instruction::Instruction;
 use fut_base::list::NoMemory;
@@ -46,7 +47,11 @@ impl Model for Code {
 
     ghost Value = { Compiled };
 
+    ghost use Rattle.std.specs.Prelude.{◌≤◌, length};
+
     ghost view = { λ c. record { arrays = c.arrays; tasks = c.tasks; main = c.main; cells = c.cells } };
+
+    ghost invariant = { λ c. length c.arrays ≤ 65536 };
 }
 
 impl Code {
@@ -80,6 +85,30 @@ impl Code {
         self.cells
     }
 
+    /// The array that has a cell, by its place among the arrays, and the cell's index in it.
+    pub fn array(&self, cell: u32) -> (u32, u32)
+        requires { cell < self.now.cells }
+        ensures { (P : tree.Program) → IsCodeOf P self.now → IsCellOf self.now.arrays cell result }
+    {
+        for (place, array) in self.arrays.as_slice().iter().enumerate() {
+            if array.first <= cell && cell - array.first < array.length {
+                return (place as u32, cell - array.first);
+            }
+        }
+        (0, 0)
+    }
+
+    /// The name of the array at a place, where it is text.
+    pub fn array_name(&self, array: u32) -> &str
+        requires { array < length self.now.arrays }
+        ensures { (a : Cells) → slice_get self.now.arrays array ≡ Some a → IsUtf8 a.name → result.now ≡ a.name }
+    {
+        match self.arrays.get(array as usize) {
+            Some(array) => str::from_utf8(array.name.as_slice()).unwrap_or(""),
+            None => "",
+        }
+    }
+
     /// The instruction at a place of a task; behind the last one a task returns 0.
     pub fn instruction(&self, task: u32, place: usize) -> Instruction
         ensures { result ≡ instruction_at (instructions_of self.now.tasks task) place }
@@ -90,6 +119,22 @@ impl Code {
                 None => Instruction::Return { value: 0 },
             },
             None => Instruction::Return { value: 0 },
+        }
+    }
+
+    /// The place behind an instruction of a task; where there is none, the same place.
+    pub fn next_place(&self, task: u32, place: usize) -> usize
+        ensures { result ≡ next_place (instructions_of self.now.tasks task) place }
+    {
+        match self.tasks.get(task as usize) {
+            Some(code) => {
+                if place < code.len() {
+                    place + 1
+                } else {
+                    place
+                }
+            }
+            None => place,
         }
     }
 }

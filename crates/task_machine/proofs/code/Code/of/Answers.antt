@@ -1,6 +1,7 @@
-use Rattle.std.proofs.Common.{◌≡◌, List, subst, sym, ◌∙◌}
+use Rattle.std.proofs.Common.{◌≡◌, ◌≤◌, length, List, subst, sym, ◌∙◌}
 use Rattle.task_machine.specs.Flat.{ArraysFit}
 use Rattle.fut_syntax.specs.declared.tree.Item.{Item}
+use Rattle.task_machine.specs.Texts.{CellArray, arrays_from}
 use Rattle.task_machine.specs.Views.{items_tree}
 use Rattle.task_machine.proofs.Coding.{CanBeMade, small_can_be_made}
 use Rattle.task_machine.proofs.code.Code.of.Goals as goal
@@ -27,3 +28,8 @@ task_number-requires c = (made _ _ c.as_slice-items.ensures (small_can_be_made _
 
 pub cells_of-requires : goal.cells_of-requires
 cells_of-requires c = (made _ _ c.as_slice-items.ensures (small_can_be_made _ c.requires)).cells
+
+pub invariant_of-result : goal.invariant_of-result
+invariant_of-result c =
+    let few : length (arrays_from 0 (items_tree c.as_slice-items.result.now)) ≤ 65536 = (made _ _ c.as_slice-items.ensures (small_can_be_made _ c.requires)).few_arrays in
+    subst (λ (xs : List CellArray). length xs ≤ 65536) (sym c.in_ok-arrays.ensures) few
