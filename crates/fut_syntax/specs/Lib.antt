@@ -1,1 +1,5 @@
 pub mod Trees
+pub mod Tokens
+pub mod Faults
+pub mod Machine
+pub mod Phrases

@@ -1,0 +1,56 @@
+-- Where the fault of a list of tokens stands.
+use Rattle.std.specs.Prelude.{◌≡◌, ℕ, ◌+◌, ◌-◌, ◌⊎◌, Bool, true, false, List, [], ◌∷◌, ◌++◌, length, cond, nat_le, ◌&&◌}
+use Rattle.fut_syntax.specs.declared.token.Token.{Token}
+use Rattle.fut_syntax.specs.declared.token.Token.TheVariants as t
+use Rattle.fut_syntax.specs.Trees.{Program}
+use Rattle.fut_syntax.specs.Tokens.{program_tokens}
+
+abbrev pub opens : Token → Bool
+opens t.LeftParen = true
+opens t.LeftBrace = true
+opens t.LeftSquare = true
+opens _ = false
+
+abbrev pub closes : Token → Bool
+closes t.RightParen = true
+closes t.RightBrace = true
+closes t.RightSquare = true
+closes _ = false
+
+-- the brackets open after a token, of those open before it
+abbrev pub open_by : Token → ℕ → ℕ
+open_by x d = cond (opens x) (d + 1) (cond (closes x) (d - 1) d)
+
+-- the brackets open after some tokens
+abbrev pub open_after : List Token → ℕ → ℕ
+open_after [] d = d
+open_after (x ∷ xs) d = open_after xs (open_by x d)
+
+-- an opening bracket where 64 are open
+abbrev pub is_full : ℕ → Token → Bool
+is_full d x = opens x && nat_le 64 d
+
+-- some program begins with these tokens
+abbrev pub Begins : List Token → Type 0
+Begins xs = (p : Program) × (more : List Token) × (program_tokens p ≡ xs ++ more)
+
+-- after these tokens this one can't come
+abbrev pub IsBad : List Token → Token → Type 0
+IsBad before x = (Begins (before ++ x ∷ []) → ⊥) ⊎ (is_full (open_after before 0) x ≡ true)
+
+abbrev pub IsGood : List Token → Token → Type 0
+IsGood before x = Begins (before ++ x ∷ []) × (is_full (open_after before 0) x ≡ false)
+
+-- the first bad token is the one behind which `left` tokens stand
+pub record IsFault (xs : List Token) (left : ℕ) : Type 0 where
+  pub before : List Token
+  pub token : Token
+  pub behind : List Token
+  pub whole : xs ≡ before ++ token ∷ behind
+  pub left_is : left ≡ length behind
+  pub bad : IsBad before token
+  pub good : (a : List Token) (x : Token) (b : List Token) → before ≡ a ++ x ∷ b → IsGood a x
+
+-- every token is good
+abbrev pub IsWhole : List Token → Program → Type 0
+IsWhole xs p = (program_tokens p ≡ xs) × ((a : List Token) (x : Token) (b : List Token) → xs ≡ a ++ x ∷ b → is_full (open_after a 0) x ≡ false)
