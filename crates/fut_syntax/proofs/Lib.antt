@@ -1,0 +1,4 @@
+pub mod Splits
+pub mod Viable
+pub mod Through
+pub mod Exact
