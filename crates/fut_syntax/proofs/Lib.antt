@@ -5,3 +5,5 @@ pub mod Exact
 pub mod Once
 pub mod Whole
 pub mod Longer
+pub mod Cursors
+pub mod Chains

@@ -1,5 +1,7 @@
 //! The language: tokens, grammar, trees and texts of programs.
 #![tactic(auto)]
 
+mod cursor;
+mod signs;
 pub mod token;
 pub mod tree;
