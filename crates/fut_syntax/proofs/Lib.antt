@@ -7,3 +7,4 @@ pub mod Whole
 pub mod Longer
 pub mod Cursors
 pub mod Chains
+pub mod Made

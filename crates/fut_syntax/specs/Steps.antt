@@ -53,6 +53,18 @@ StopsBy s d xs ys stop.NoMemory = Unit {0}
 pub record Stops (s : List Symbol) (d : ℕ) (xs ys : List Token) (e : Stop) : Type 0 where
   pub by : StopsBy s d xs ys e
 
+-- whatever is due besides and however many brackets are open, the run stops here
+pub record HaltsAt (a : Symbol) (xs ys : List Token) : Type 0 where
+  pub stops : (d : ℕ) (k : List Symbol) → run64 (a ∷ k) d xs ≡ stopped_at ys
+
+abbrev pub StopsAtBy : Symbol → List Token → List Token → Stop → Type 0
+StopsAtBy a xs ys stop.Fault = HaltsAt a xs ys
+StopsAtBy a xs ys stop.NoMemory = Unit {0}
+
+-- the reading of a part without brackets stopped
+pub record StopsAt (a : Symbol) (xs ys : List Token) (e : Stop) : Type 0 where
+  pub by : StopsAtBy a xs ys e
+
 -- Some symbols were read as a tree and others are due, or the reading stopped. The count of brackets goes from d to d'.
 abbrev pub ReadTo : {X T : Type 0} → List Symbol → List Symbol → (T → List Token → List Token) → (X → T) → ℕ → ℕ → List Token → List Token → Result X Stop → Type 0
 ReadTo s s' before tree d d' xs ys (Ok x) = Steps s d xs s' d' ys × (xs ≡ before (tree x) ys)
@@ -82,15 +94,28 @@ abbrev pub Opened : Symbol → Token → ℕ → List Token → List Token → R
 Opened a x d xs ys (Ok d') = Steps (a ∷ []) d xs [] d' ys × (xs ≡ x ∷ ys) × (d' ≡ d + 1) × (d < 64)
 Opened a x d xs ys (Err e) = Stops (a ∷ []) d xs ys e
 
--- a sign of the grammar was taken, at which the count of brackets goes from d to d', or the fault is in view
-abbrev pub Taken : Symbol → Token → (ℕ → ℕ → Type 0) → List Token → List Token → Result (Unit {0}) Stop → Type 0
-Taken a x counts xs ys (Ok _) = ((d d' : ℕ) → counts d d' → Steps (a ∷ []) d xs [] d' ys) × (xs ≡ x ∷ ys)
-Taken a x counts xs ys (Err e) = (d : ℕ) → Stops (a ∷ []) d xs ys e
+-- whatever is due besides and however many brackets are open, the run takes the symbol
+pub record StepsAt (a : Symbol) (xs ys : List Token) : Type 0 where
+  pub goes : (d : ℕ) (k : List Symbol) → run64 (a ∷ k) d xs ≡ run64 k d ys
 
 -- a part without brackets was taken, or the reading stopped
 abbrev pub TakenPart : {X : Type 0} → Symbol → (X → List Token → List Token) → List Token → List Token → Result X Stop → Type 0
-TakenPart a before xs ys (Ok x) = ((d : ℕ) → Steps (a ∷ []) d xs [] d ys) × (xs ≡ before x ys)
-TakenPart a before xs ys (Err e) = (d : ℕ) → Stops (a ∷ []) d xs ys e
+TakenPart a before xs ys (Ok x) = StepsAt a xs ys × (xs ≡ before x ys)
+TakenPart a before xs ys (Err e) = StopsAt a xs ys e
+
+-- a sign of the grammar was taken, or the fault is in view
+abbrev pub Taken : Symbol → Token → List Token → List Token → Result (Unit {0}) Stop → Type 0
+Taken a x xs ys (Ok _) = StepsAt a xs ys × (xs ≡ x ∷ ys)
+Taken a x xs ys (Err e) = StopsAt a xs ys e
+
+-- a closing bracket was taken, or the fault is in view
+abbrev pub Closed : Symbol → Token → List Token → List Token → Result (Unit {0}) Stop → Type 0
+Closed a x xs ys (Ok _) = ((d d' : ℕ) → d ≡ d' + 1 → Steps (a ∷ []) d xs [] d' ys) × (xs ≡ x ∷ ys)
+Closed a x xs ys (Err e) = StopsAt a xs ys e
+
+-- a value is its own tree
+abbrev pub same : {X : Type 0} → X → X
+same x = x
 
 abbrev pub word_before : List ℕ → List Token → List Token
 word_before w r = t.Word w ∷ r

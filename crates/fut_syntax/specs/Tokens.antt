@@ -1,5 +1,5 @@
 -- The tokens of a tree, in front of other tokens.
-use Rattle.std.specs.Prelude.{ℕ, zero, suc, List, [], ◌∷◌}
+use Rattle.std.specs.Prelude.{ℕ, zero, suc, List, [], ◌∷◌, Option, Some, None}
 use Rattle.fut_syntax.specs.declared.token.Token.{Token}
 use Rattle.fut_syntax.specs.declared.token.Token.TheVariants as t
 use Rattle.fut_syntax.specs.Trees.{Sign, NoSign, Negative, Inverted, Op, Add, Subtract, Multiply, Divide, Remainder, BitAnd, BitOr, Equal, Unequal, Less, AtMost, Greater, AtLeast, Expr, Alone, Pair, Operand, Signed, Primary, Literal, Name, Bracket, Init, GetOf, CreateOf, Index, Value, VarType, Plain, Array, Stmt, Declare, Define, Assign, Store, SpawnOf, SyncAll, If', While', Return', Block, Done, Then, Tail, NoElse, ElseOf, Param, Item, CellsOf, TaskOf, Program}
@@ -61,6 +61,11 @@ init_before (Value e) r = expr_before e r
 abbrev pub type_before : ℕ → List Token → List Token
 type_before zero r = t.Int ∷ r
 type_before (suc d) r = t.Fut ∷ type_before d r
+
+-- the length of an array in its brackets, if there is one
+abbrev pub length_before : Option ℕ → List Token → List Token
+length_before None r = r
+length_before (Some n) r = t.LeftSquare ∷ t.Number n ∷ t.RightSquare ∷ r
 
 abbrev pub var_type_before : VarType → List Token → List Token
 var_type_before (Plain d) r = type_before d r

@@ -2,6 +2,8 @@
 #![tactic(auto)]
 
 mod cursor;
+mod exprs;
 mod signs;
 pub mod token;
 pub mod tree;
+mod types;

@@ -1,7 +1,7 @@
 //! Parts of one token.
-ghost use Rattle.std.specs.Prelude.{◌≡◌, ◌+◌, true};
+ghost use Rattle.std.specs.Prelude.{◌≡◌, true};
 ghost use Rattle.fut_syntax.specs.declared.token.Token.TheVariants as t;
-ghost use Rattle.fut_syntax.specs.Steps.{front, Entered, Opened, Taken, TakenPart, TakenOp, TakenSign, Copied, word_before, number_before};
+ghost use Rattle.fut_syntax.specs.Steps.{front, Entered, Opened, Taken, Closed, TakenPart, TakenOp, TakenSign, Copied, word_before, number_before};
 ghost use Rattle.fut_syntax.specs.Faults.{opens};
 ghost use Rattle.fut_syntax.specs.Machine.{Word', Number', Semicolon', Colon', Equals', LeftParen', RightParen', LeftSquare', RightSquare'};
 
@@ -77,7 +77,7 @@ pub fn open_square(cursor: &mut Cursor, depth: u32) -> Result<u32, Stop>
 }
 
 pub fn close_paren(cursor: &mut Cursor) -> Result<(), Stop>
-    ensures { Taken RightParen' t.RightParen (λ d d'. d ≡ d' + 1) cursor.old cursor.new result }
+    ensures { Closed RightParen' t.RightParen cursor.old cursor.new result }
 {
     match cursor.peek() {
         Token::RightParen => {
@@ -89,7 +89,7 @@ pub fn close_paren(cursor: &mut Cursor) -> Result<(), Stop>
 }
 
 pub fn close_square(cursor: &mut Cursor) -> Result<(), Stop>
-    ensures { Taken RightSquare' t.RightSquare (λ d d'. d ≡ d' + 1) cursor.old cursor.new result }
+    ensures { Closed RightSquare' t.RightSquare cursor.old cursor.new result }
 {
     match cursor.peek() {
         Token::RightSquare => {
@@ -101,7 +101,7 @@ pub fn close_square(cursor: &mut Cursor) -> Result<(), Stop>
 }
 
 pub fn semicolon(cursor: &mut Cursor) -> Result<(), Stop>
-    ensures { Taken Semicolon' t.Semicolon (λ d d'. d ≡ d') cursor.old cursor.new result }
+    ensures { Taken Semicolon' t.Semicolon cursor.old cursor.new result }
 {
     match cursor.peek() {
         Token::Semicolon => {
@@ -113,7 +113,7 @@ pub fn semicolon(cursor: &mut Cursor) -> Result<(), Stop>
 }
 
 pub fn colon(cursor: &mut Cursor) -> Result<(), Stop>
-    ensures { Taken Colon' t.Colon (λ d d'. d ≡ d') cursor.old cursor.new result }
+    ensures { Taken Colon' t.Colon cursor.old cursor.new result }
 {
     match cursor.peek() {
         Token::Colon => {
@@ -125,7 +125,7 @@ pub fn colon(cursor: &mut Cursor) -> Result<(), Stop>
 }
 
 pub fn equals(cursor: &mut Cursor) -> Result<(), Stop>
-    ensures { Taken Equals' t.Equals (λ d d'. d ≡ d') cursor.old cursor.new result }
+    ensures { Taken Equals' t.Equals cursor.old cursor.new result }
 {
     match cursor.peek() {
         Token::Equals => {
