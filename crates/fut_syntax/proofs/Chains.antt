@@ -8,7 +8,7 @@ use Rattle.fut_syntax.specs.declared.cursor.Stop.{Stop}
 use Rattle.fut_syntax.specs.declared.cursor.Stop.TheVariants as stop
 use Rattle.fut_syntax.specs.Faults.{is_full, open_by, opens, closes}
 use Rattle.fut_syntax.specs.Machine.{Symbol, Expr', ExprTail, Operand', Primary', RightParen', InitTail, Init', Args, ArgsTail, then_due, Takes, Passes, rule, next, by_answer, run_on, run64}
-use Rattle.fut_syntax.specs.Steps.{Steps, Stops, StopsBy, behind}
+use Rattle.fut_syntax.specs.Steps.{Steps, StepsAt, Stops, StopsBy, behind}
 use Rattle.fut_syntax.specs.Trees.{Expr}
 use Rattle.fut_syntax.specs.Tokens.{expr_before}
 use Rattle.fut_syntax.proofs.Longer.{expr_longer}
@@ -134,3 +134,7 @@ onward h g = record { goes = λ k. h.goes k ∙ g.goes k }
 
 pub seen : {xs : List Token} {x y : Token} → xs ≡ x ∷ behind xs → x ≡ y → xs ≡ y ∷ behind xs
 seen {xs = xs} front same = front ∙ ap (λ (q : Token). q ∷ behind xs) same
+
+-- a step at any count of open brackets
+pub anywhere : {a : Symbol} {s : List Symbol} {d : ℕ} {xs ys : List Token} → StepsAt a xs s ys → Steps (a ∷ []) d xs s d ys
+anywhere {d = d} h = record { goes = λ k. h.goes d k }

@@ -8,3 +8,4 @@ pub mod Longer
 pub mod Cursors
 pub mod Chains
 pub mod Made
+pub mod Counted

@@ -8,9 +8,9 @@ use Rattle.fut_syntax.specs.declared.tree.Operator.{Operator}
 use Rattle.fut_syntax.specs.declared.tree.Item.{Item}
 use Rattle.fut_syntax.specs.declared.tree.Sign.{Sign}
 use Rattle.fut_syntax.specs.Machine.{Symbol, First, ExprTail, Operand', Primary', run64}
-use Rattle.fut_syntax.specs.Tokens.{op_token, sign_before, block_before, item_before, items_before}
+use Rattle.fut_syntax.specs.Tokens.{op_token, sign_before, call_before, block_before, item_before, items_before}
 use Rattle.fut_syntax.specs.Trees as trees
-use Rattle.fut_syntax.specs.Trees.{Block}
+use Rattle.fut_syntax.specs.Trees.{Expr, Block}
 use Rattle.fut_syntax.specs.Views.{op_tree, sign_tree, item_tree, items_tree}
 
 abbrev pub is_end : Token → Bool
@@ -94,18 +94,18 @@ abbrev pub Opened : Symbol → Token → ℕ → List Token → List Token → R
 Opened a x d xs ys (Ok d') = Steps (a ∷ []) d xs [] d' ys × (xs ≡ x ∷ ys) × (d' ≡ d + 1) × (d < 64)
 Opened a x d xs ys (Err e) = Stops (a ∷ []) d xs ys e
 
--- whatever is due besides and however many brackets are open, the run takes the symbol
-pub record StepsAt (a : Symbol) (xs ys : List Token) : Type 0 where
-  pub goes : (d : ℕ) (k : List Symbol) → run64 (a ∷ k) d xs ≡ run64 k d ys
+-- whatever is due besides and however many brackets are open, the run goes from there to here
+pub record StepsAt (a : Symbol) (xs : List Token) (s : List Symbol) (ys : List Token) : Type 0 where
+  pub goes : (d : ℕ) (k : List Symbol) → run64 (a ∷ k) d xs ≡ run64 (s ++ k) d ys
 
 -- a part without brackets was taken, or the reading stopped
 abbrev pub TakenPart : {X : Type 0} → Symbol → (X → List Token → List Token) → List Token → List Token → Result X Stop → Type 0
-TakenPart a before xs ys (Ok x) = StepsAt a xs ys × (xs ≡ before x ys)
+TakenPart a before xs ys (Ok x) = StepsAt a xs [] ys × (xs ≡ before x ys)
 TakenPart a before xs ys (Err e) = StopsAt a xs ys e
 
 -- a sign of the grammar was taken, or the fault is in view
 abbrev pub Taken : Symbol → Token → List Token → List Token → Result (Unit {0}) Stop → Type 0
-Taken a x xs ys (Ok _) = StepsAt a xs ys × (xs ≡ x ∷ ys)
+Taken a x xs ys (Ok _) = StepsAt a xs [] ys × (xs ≡ x ∷ ys)
 Taken a x xs ys (Err e) = StopsAt a xs ys e
 
 -- a closing bracket was taken, or the fault is in view
@@ -123,14 +123,18 @@ word_before w r = t.Word w ∷ r
 abbrev pub number_before : ℕ → List Token → List Token
 number_before n r = t.Number n ∷ r
 
+-- a called word and its arguments
+abbrev pub called : (List ℕ × List Expr) → List Token → List Token
+called c r = call_before c.0 c.1 r
+
 -- an operator and what is due after it, or none
 abbrev pub TakenOp : List Token → List Token → Option Operator → Type 0
-TakenOp xs ys (Some o) = ((d : ℕ) → Steps (ExprTail ∷ []) d xs (Operand' ∷ []) d ys) × (xs ≡ op_token (op_tree o) ∷ ys)
-TakenOp xs ys None = ((d : ℕ) → Steps (ExprTail ∷ []) d xs [] d ys) × (xs ≡ ys)
+TakenOp xs ys (Some o) = StepsAt ExprTail xs (Operand' ∷ []) ys × (xs ≡ op_token (op_tree o) ∷ ys)
+TakenOp xs ys None = StepsAt ExprTail xs [] ys × (xs ≡ ys)
 
 -- a sign before an operand
 abbrev pub TakenSign : List Token → List Token → Sign → Type 0
-TakenSign xs ys s = ((d : ℕ) → Steps (Operand' ∷ []) d xs (Primary' ∷ []) d ys) × (xs ≡ sign_before (sign_tree s) ys)
+TakenSign xs ys s = StepsAt Operand' xs (Primary' ∷ []) ys × (xs ≡ sign_before (sign_tree s) ys)
 
 -- a tree was made of parts, or there is no memory
 abbrev pub Made : {X T : Type 0} → (X → T) → T → Result X Stop → Type 0

@@ -17,6 +17,7 @@ use Rattle.fut_syntax.specs.declared.tree.Tail as tail
 use Rattle.fut_syntax.specs.declared.tree.Param.{Param}
 use Rattle.fut_syntax.specs.declared.tree.Item.TheVariants as item
 use Rattle.fut_syntax.specs.declared.tree.Item.{Item}
+use Rattle.fut_syntax.specs.declared.inits.Called.{Called}
 use Rattle.fut_syntax.specs.Trees as trees
 
 abbrev pub sign_tree : Sign → trees.Sign
@@ -54,6 +55,10 @@ abbrev mutual
 
 abbrev pub args_tree : List Expr → List trees.Expr
 args_tree es = map expr_tree es
+
+-- a called word and its arguments
+abbrev pub call_tree : Called → (List ℕ × List trees.Expr)
+call_tree c = (c.name, args_tree c.given)
 
 abbrev pub init_tree : Init → trees.Init
 init_tree (init.Get w) = trees.GetOf w

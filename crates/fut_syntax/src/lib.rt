@@ -3,6 +3,7 @@
 
 mod cursor;
 mod exprs;
+mod inits;
 mod signs;
 pub mod token;
 pub mod tree;

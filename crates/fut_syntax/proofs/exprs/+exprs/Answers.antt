@@ -1,8 +1,8 @@
 use Rattle.std.proofs.Common.{◌∷◌, ap, ◌∙◌}
 use Rattle.std.proofs.lemmas.Result.{err_from_is_err_and}
-use Rattle.fut_syntax.specs.Tokens.{op_token, sign_before, operand_before}
-use Rattle.fut_syntax.specs.Views.{op_tree, sign_tree, operand_tree}
-use Rattle.fut_syntax.proofs.Chains.{seen, after, stops_after, expr_opens, bracket_opens}
+use Rattle.fut_syntax.specs.Tokens.{op_token, operand_before}
+use Rattle.fut_syntax.specs.Views.{op_tree, operand_tree}
+use Rattle.fut_syntax.proofs.Chains.{after, stops_after, anywhere, expr_opens}
 use Rattle.fut_syntax.proofs.exprs.+exprs.Goals as goal
 
 pub expr-returns-in_err-left : goal.expr-returns-in_err-left
@@ -13,28 +13,17 @@ expr-returns-in_err-left t c =
 pub expr-returns-in_err-right-in-Some : goal.expr-returns-in_err-right-in-Some
 expr-returns-in_err-right-in-Some t c =
     let p = err_from_is_err_and c.from_residual-in_err-right-in-Some.result c.from_residual-in_err-right-in-Some.ensures.1 in
-    rw (p.1, p.2) (stops_after (after (after (expr_opens c.args.depth c.args.cursor.now) c.in_ok-left.ensures.0) (c.in-Some.ensures.0 c.args.depth)) c.in_err-right-in-Some.ensures)
+    rw (p.1, p.2) (stops_after (after (after (expr_opens c.args.depth c.args.cursor.now) c.in_ok-left.ensures.0) (anywhere c.in-Some.ensures.0)) c.in_err-right-in-Some.ensures)
 
 pub expr-returns-in_ok-right-in-Some : goal.expr-returns-in_ok-right-in-Some
 expr-returns-in_ok-right-in-Some t c = (
-  after (after (after (expr_opens c.args.depth c.args.cursor.now) c.in_ok-left.ensures.0) (c.in-Some.ensures.0 c.args.depth)) c.in_ok-right-in-Some.ensures.0,
+  after (after (after (expr_opens c.args.depth c.args.cursor.now) c.in_ok-left.ensures.0) (anywhere c.in-Some.ensures.0)) c.in_ok-right-in-Some.ensures.0,
   c.in_ok-left.ensures.1 ∙ ap (λ q. operand_before (operand_tree c.in_ok-left.left) q) (c.in-Some.ensures.1 ∙ ap (λ q. op_token (op_tree c.in-Some.between) ∷ q) c.in_ok-right-in-Some.ensures.1),
 )
 
 pub expr-returns-in-None : goal.expr-returns-in-None
 expr-returns-in-None t c = (
-  after (after (expr_opens c.args.depth c.args.cursor.now) c.in_ok-left.ensures.0) (c.in-None.ensures.0 c.args.depth),
+  after (after (expr_opens c.args.depth c.args.cursor.now) c.in_ok-left.ensures.0) (anywhere c.in-None.ensures.0),
   c.in_ok-left.ensures.1 ∙ ap (λ q. operand_before (operand_tree c.in_ok-left.left) q) c.in-None.ensures.1,
-)
-
-pub operand-returns-in_err-inner : goal.operand-returns-in_err-inner
-operand-returns-in_err-inner t c =
-    let p = err_from_is_err_and c.from_residual.result c.from_residual.ensures.1 in
-    rw (p.1, p.2) (stops_after (c.sign-before.ensures.0 c.args.depth) c.in_err-inner.ensures)
-
-pub operand-returns : goal.operand-returns
-operand-returns t c = (
-  after (c.sign-before.ensures.0 c.args.depth) c.in_ok-inner.ensures.0,
-  c.sign-before.ensures.1 ∙ ap (λ q. sign_before (sign_tree c.sign-before.result) q) c.in_ok-inner.ensures.1,
 )
 
