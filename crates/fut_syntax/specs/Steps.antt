@@ -8,7 +8,7 @@ use Rattle.fut_syntax.specs.declared.tree.Operator.{Operator}
 use Rattle.fut_syntax.specs.declared.tree.Item.{Item}
 use Rattle.fut_syntax.specs.declared.tree.Sign.{Sign}
 use Rattle.fut_syntax.specs.Machine.{Symbol, First, ExprTail, Operand', Primary', run64}
-use Rattle.fut_syntax.specs.Tokens.{op_token, sign_before, call_before, block_before, item_before, items_before}
+use Rattle.fut_syntax.specs.Tokens.{op_token, sign_before, expr_before, call_before, block_before, item_before, items_before}
 use Rattle.fut_syntax.specs.Trees as trees
 use Rattle.fut_syntax.specs.Trees.{Expr, Block}
 use Rattle.fut_syntax.specs.Views.{op_tree, sign_tree, item_tree, items_tree}
@@ -83,6 +83,10 @@ ReadOn taken s s' before tree d xs ys (Err e) = Stops s d xs ys e
 abbrev pub braced : Block → List Token → List Token
 braced b r = t.LeftBrace ∷ block_before b r
 
+-- a value behind its sign
+abbrev pub set_before : Expr → List Token → List Token
+set_before e r = t.Equals ∷ expr_before e r
+
 -- an opening bracket was taken, or is one too many
 abbrev pub Entered : ℕ → List Token → List Token → Result ℕ Stop → Type 0
 Entered d xs ys (Ok d') = (d < 64) × (d' ≡ d + 1) × (ys ≡ behind xs)
@@ -144,6 +148,12 @@ Made tree made (Err e) = e ≡ stop.NoMemory
 abbrev pub is_close : Token → Bool
 is_close t.RightBrace = true
 is_close _ = false
+
+-- a token that begins a statement with blocks
+abbrev pub has_block : Token → Bool
+has_block t.If = true
+has_block t.While = true
+has_block _ = false
 
 -- the items of a whole, of which there is one
 abbrev pub Spells : List Token → List Item → Type 0

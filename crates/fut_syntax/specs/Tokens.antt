@@ -71,6 +71,11 @@ abbrev pub var_type_before : VarType → List Token → List Token
 var_type_before (Plain d) r = type_before d r
 var_type_before (Array d n) r = type_before d (t.LeftSquare ∷ t.Number n ∷ t.RightSquare ∷ r)
 
+-- what a variable is set to where it is declared, if anything
+abbrev pub var_init_before : Option Init → List Token → List Token
+var_init_before None r = r
+var_init_before (Some i) r = t.Equals ∷ init_before i r
+
 abbrev mutual
   pub stmt_before : Stmt → List Token → List Token
   stmt_before (Declare w v) r = t.Var ∷ t.Word w ∷ t.Colon ∷ var_type_before v (t.Semicolon ∷ r)

@@ -66,6 +66,10 @@ init_tree (init.Create w es) = trees.CreateOf w (args_tree es)
 init_tree (init.Index w e) = trees.Index w (expr_tree e)
 init_tree (init.Value e) = trees.Value (expr_tree e)
 
+abbrev pub var_init_tree : Option Init → Option trees.Init
+var_init_tree None = None
+var_init_tree (Some i) = Some (init_tree i)
+
 abbrev pub type_tree : VarType → trees.VarType
 type_tree (kind.Plain d) = trees.Plain d
 type_tree (kind.Array d n) = trees.Array d n

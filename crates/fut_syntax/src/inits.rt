@@ -1,10 +1,10 @@
 //! Reads calls, and what a variable is set to.
 ghost use Rattle.std.specs.Prelude.{◌≡◌, ◌≤◌, ◌-◌, ◌∷◌, []};
 ghost use Rattle.fut_syntax.specs.declared.token.Token.TheVariants as t;
-ghost use Rattle.fut_syntax.specs.Tokens.{args_before, init_before};
-ghost use Rattle.fut_syntax.specs.Views.{args_tree, call_tree, init_tree};
+ghost use Rattle.fut_syntax.specs.Tokens.{args_before, init_before, var_init_before};
+ghost use Rattle.fut_syntax.specs.Views.{args_tree, call_tree, init_tree, var_init_tree};
 ghost use Rattle.fut_syntax.specs.Steps.{Read, ReadTo, ReadOn, called, front};
-ghost use Rattle.fut_syntax.specs.Machine.{Init', InitTail, Args, Word', LeftParen'};
+ghost use Rattle.fut_syntax.specs.Machine.{Init', InitTail, VarInit, Args, Word', LeftParen'};
 
 use crate::cursor::{Cursor, Stop};
 use crate::exprs::{expr, operand};
@@ -112,5 +112,20 @@ pub fn init(alloc: Global, cursor: &mut Cursor, depth: u32) -> Result<Init, Stop
             let value = expr(alloc, cursor, depth)?;
             Ok(Init::Value(value))
         }
+    }
+}
+
+/// What a declared variable is set to, if anything.
+pub fn var_init(alloc: Global, cursor: &mut Cursor, depth: u32) -> Result<Option<Init>, Stop>
+    requires { depth ≤ 64 }
+    ensures { Read VarInit var_init_before var_init_tree depth cursor.old cursor.new result }
+{
+    match cursor.peek() {
+        Token::Equals => {
+            cursor.bump();
+            let value = init(alloc, cursor, depth)?;
+            Ok(Some(value))
+        }
+        _ => Ok(None),
     }
 }

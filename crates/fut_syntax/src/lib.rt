@@ -5,6 +5,7 @@ mod cursor;
 mod exprs;
 mod inits;
 mod signs;
+mod stmts;
 pub mod token;
 pub mod tree;
 mod types;
