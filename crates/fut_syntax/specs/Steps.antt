@@ -112,9 +112,13 @@ abbrev pub Taken : Symbol → Token → List Token → List Token → Result (Un
 Taken a x xs ys (Ok _) = StepsAt a xs [] ys × (xs ≡ x ∷ ys)
 Taken a x xs ys (Err e) = StopsAt a xs ys e
 
+-- whatever is due besides, the run takes the symbol and closes a bracket
+pub record ClosesAt (a : Symbol) (xs ys : List Token) : Type 0 where
+  pub goes : (d : ℕ) (k : List Symbol) → run64 (a ∷ k) (d + 1) xs ≡ run64 k d ys
+
 -- a closing bracket was taken, or the fault is in view
 abbrev pub Closed : Symbol → Token → List Token → List Token → Result (Unit {0}) Stop → Type 0
-Closed a x xs ys (Ok _) = ((d d' : ℕ) → d ≡ d' + 1 → Steps (a ∷ []) d xs [] d' ys) × (xs ≡ x ∷ ys)
+Closed a x xs ys (Ok _) = ClosesAt a xs ys × (xs ≡ x ∷ ys)
 Closed a x xs ys (Err e) = StopsAt a xs ys e
 
 -- a value is its own tree
