@@ -7,7 +7,7 @@ use Rattle.fut_syntax.specs.declared.token.Token.TheVariants as t
 use Rattle.fut_syntax.specs.declared.cursor.Stop.{Stop}
 use Rattle.fut_syntax.specs.declared.cursor.Stop.TheVariants as stop
 use Rattle.fut_syntax.specs.Faults.{is_full, open_by, opens, closes}
-use Rattle.fut_syntax.specs.Machine.{Symbol, Expr', ExprTail, Operand', Primary', RightParen', InitTail, Init', Args, ArgsTail, then_due, Takes, Passes, rule, next, by_answer, run_on, run64}
+use Rattle.fut_syntax.specs.Machine.{Symbol, First, More, Params, ParamsTail, Type', Length, Word', Colon', Expr', ExprTail, Operand', Primary', RightParen', InitTail, Init', Args, ArgsTail, then_due, Takes, Passes, rule, next, by_answer, run_on, run64}
 use Rattle.fut_syntax.specs.Steps.{Steps, StepsAt, Stops, StopsBy, behind}
 use Rattle.fut_syntax.specs.Trees.{Expr}
 use Rattle.fut_syntax.specs.Tokens.{expr_before}
@@ -138,3 +138,29 @@ seen {xs = xs} front same = front ∙ ap (λ (q : Token). q ∷ behind xs) same
 -- a step at any count of open brackets
 pub anywhere : {a : Symbol} {s : List Symbol} {d : ℕ} {xs ys : List Token} → StepsAt a xs s ys → Steps (a ∷ []) d xs s d ys
 anywhere {d = d} h = record { goes = λ k. h.goes d k }
+
+more_rule_as : (x : Token) → (x ≡ t.End → ⊥) → rule More x ≡ rule First x
+more_rule_as t.End never = absurd (never refl)
+more_rule_as _ never = refl
+
+-- where no end token is in view an item is due
+pub more_opens : {d : ℕ} {xs : List Token} (x : Token) → xs ≡ x ∷ behind xs → (x ≡ t.End → ⊥) → Steps (More ∷ []) d xs (First ∷ []) d xs
+more_opens {d = d} {xs = xs} x front never = record {
+  goes = λ k.
+      ap (λ q. run64 (More ∷ k) d q) front
+      ∙ splits.same_next is_full open_by (More ∷ k) (First ∷ k) d x (behind xs) (ap (λ b. by_answer b k (next k x)) (more_rule_as x never))
+      ∙ ap (λ q. run64 (First ∷ k) d q) (sym front);
+}
+
+params_next : (x : Token) (k : List Symbol) → (x ≡ t.RightParen → ⊥) → next (Params ∷ k) x ≡ next (Word' ∷ Colon' ∷ Type' ∷ Length ∷ ParamsTail ∷ k) x
+params_next t.RightParen k never = absurd (never refl)
+params_next _ k never = refl
+
+-- where no closing bracket is in view a parameter is due
+pub params_opens : {d : ℕ} {xs : List Token} (x : Token) → xs ≡ x ∷ behind xs → (x ≡ t.RightParen → ⊥) → Steps (Params ∷ []) d xs (Word' ∷ Colon' ∷ Type' ∷ Length ∷ ParamsTail ∷ []) d xs
+params_opens {d = d} {xs = xs} x front never = record {
+  goes = λ k.
+      ap (λ q. run64 (Params ∷ k) d q) front
+      ∙ splits.same_next is_full open_by (Params ∷ k) (Word' ∷ Colon' ∷ Type' ∷ Length ∷ ParamsTail ∷ k) d x (behind xs) (params_next x k never)
+      ∙ ap (λ q. run64 (Word' ∷ Colon' ∷ Type' ∷ Length ∷ ParamsTail ∷ k) d q) (sym front);
+}

@@ -9,3 +9,5 @@ pub mod Cursors
 pub mod Chains
 pub mod Made
 pub mod Counted
+pub mod Wholes
+pub mod Tops

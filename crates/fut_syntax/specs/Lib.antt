@@ -5,3 +5,5 @@ pub mod Machine
 pub mod Phrases
 pub mod Views
 pub mod Steps
+pub mod Answers
+pub mod Laws

@@ -4,6 +4,9 @@
 mod cursor;
 mod exprs;
 mod inits;
+mod items;
+pub mod laws;
+pub mod parser;
 mod signs;
 mod stmts;
 pub mod token;
