@@ -9,9 +9,9 @@ use Rattle.fut_syntax.specs.declared.cursor.Stop.TheVariants as stop
 use Rattle.fut_syntax.specs.Faults.{is_full, open_by, opens, closes}
 use Rattle.fut_syntax.specs.Machine.{Symbol, First, More, Params, ParamsTail, Type', Length, Word', Colon', Expr', ExprTail, Operand', Primary', RightParen', InitTail, Init', Args, ArgsTail, then_due, Takes, Passes, rule, next, by_answer, run_on, run64}
 use Rattle.fut_syntax.specs.Steps.{Steps, StepsAt, Stops, StopsBy, behind}
-use Rattle.fut_syntax.specs.Trees.{Expr}
-use Rattle.fut_syntax.specs.Tokens.{expr_before}
-use Rattle.fut_syntax.proofs.Longer.{expr_longer}
+use Rattle.fut_syntax.specs.Trees.{Expr, Param}
+use Rattle.fut_syntax.specs.Tokens.{expr_before, param_before}
+use Rattle.fut_syntax.proofs.Longer.{expr_longer, param_longer}
 use Rattle.fut_syntax.proofs.Splits as splits
 
 -- the first that is due goes on
@@ -164,3 +164,17 @@ params_opens {d = d} {xs = xs} x front never = record {
       ∙ splits.same_next is_full open_by (Params ∷ k) (Word' ∷ Colon' ∷ Type' ∷ Length ∷ ParamsTail ∷ k) d x (behind xs) (params_next x k never)
       ∙ ap (λ q. run64 (Word' ∷ Colon' ∷ Type' ∷ Length ∷ ParamsTail ∷ k) d q) (sym front);
 }
+
+within_by : (p k s : List Symbol) (d d' : ℕ) (xs m ys : List Token) → Steps s d xs (p ++ k) d' m → (e : Stop) → StopsBy p d' m ys e → StopsBy s d xs ys e
+within_by p k s d d' xs m ys h stop.Fault g = record { stops = λ r. h.goes r ∙ ap (λ (q : List Symbol). run64 q d' m) (append_assoc p k r) ∙ g.stops (k ++ r) }
+within_by p k s d d' xs m ys h stop.NoMemory g = tt
+
+-- a part of what is due stops
+pub stops_within : (p k : List Symbol) {s : List Symbol} {d d' : ℕ} {xs m ys : List Token} {e : Stop} → Steps s d xs (p ++ k) d' m → Stops p d' m ys e → Stops s d xs ys e
+stops_within p k {s = s} {d = d} {d' = d'} {xs = xs} {m = m} {ys = ys} {e = e} h g = record { by = within_by p k s d d' xs m ys h e g.by }
+
+-- a parameter and the token before it leave fewer tokens
+pub fewer_by_param : (xs m ys : List Token) (x : Token) (p : Param) → xs ≡ x ∷ behind xs → m ≡ behind xs → m ≡ param_before p ys → length ys < length xs
+fewer_by_param xs m ys x p front behind_is tokens =
+    let a = param_longer p ys in
+    omega (arith, a, ap length front, ap length behind_is, ap length tokens)
