@@ -1,5 +1,5 @@
 -- What the machine goes through is the beginning of a program.
-use Rattle.std.proofs.Common.{◌≡◌, ℕ, zero, suc, List, [], ◌∷◌, ◌++◌, inl, inr, refl, sym, subst, ap, ◌∙◌}
+use Rattle.std.proofs.Common.{◌≡◌, ℕ, zero, suc, true, List, [], ◌∷◌, ◌++◌, inl, inr, refl, sym, subst, ap, ◌∙◌}
 use Rattle.std.specs.Prelude.{Option, Some, None}
 use Rattle.fut_syntax.specs.declared.token.Token.{Token}
 use Rattle.fut_syntax.specs.declared.token.Token.TheVariants as t
@@ -7,7 +7,7 @@ use Rattle.fut_syntax.specs.Trees.{NoSign, Negative, Inverted, Add, Subtract, Mu
 use Rattle.fut_syntax.specs.Tokens.{expr_before, operand_before, type_before, var_type_before, stmt_before, program_before}
 use Rattle.fut_syntax.specs.Machine.{Symbol, First, More, Params, ParamsTail, Type', Length, Block', Stmts, Else', VarInit, WordStmt, Init', InitTail, Args, ArgsTail, Expr', ExprTail, Operand', Primary', Word', Number', LeftParen', RightParen', LeftSquare', RightSquare', Semicolon', Colon', Equals', Answer, Takes, Passes, Stops, then_due, primary_rule, operand_rule, expr_rule, expr_tail_rule, args_tail_rule, args_rule, init_rule, init_tail_rule, type_rule, length_rule, var_init_rule, word_stmt_rule, stmts_rule, block_rule, else_rule, params_rule, params_tail_rule, first_rule, more_rule, word_rule, number_rule, left_paren_rule, right_paren_rule, left_square_rule, right_square_rule, semicolon_rule, colon_rule, equals_rule, rule, by_answer, next, go_on, walk}
 use Rattle.fut_syntax.specs.Phrases.{Phrase, Phrases, IsExprTail, IsLength, IsVarInit, IsWordStmt}
-use Rattle.fut_syntax.specs.Faults.{Begins}
+use Rattle.fut_syntax.specs.Faults.{IsBegun, all_simple}
 use Rattle.fut_syntax.proofs.Splits.{IsFirm, expr_firm}
 
 -- a rule's answer makes phrases of the symbol
@@ -286,46 +286,47 @@ walk_back (x ∷ xs) s s' e ys r h =
 abbrev nought : Expr
 nought = Alone (Signed NoSign (Literal 0))
 
--- a phrase of each symbol
-shortest : (a : Symbol) (r : List Token) → (c : List Token) × Phrase a c r
-shortest First r = (_, (record { first = CellsOf (97 ∷ []) 1; others = [] }, refl))
-shortest More r = (_, ([], refl))
-shortest Params r = (_, ([], refl))
-shortest ParamsTail r = (_, ([], refl))
-shortest Type' r = (_, (zero, refl))
-shortest Length r = (_, inl refl)
-shortest Block' r = (_, (Done, refl))
-shortest Stmts r = (_, (Done, refl))
-shortest Else' r = (_, (NoElse, refl))
-shortest VarInit r = (_, inl refl)
-shortest WordStmt r = (_, inl (Value nought, refl))
-shortest Init' r = (_, (Value nought, refl))
-shortest InitTail r = (_, inl (inl refl))
-shortest Args r = (_, ([], refl))
-shortest ArgsTail r = (_, ([], refl))
-shortest Expr' r = (_, (nought, refl))
-shortest ExprTail r = (_, inl refl)
-shortest Operand' r = (_, (Signed NoSign (Literal 0), refl))
-shortest Primary' r = (_, (Literal 0, refl))
-shortest Word' r = (_, (97 ∷ [], refl))
-shortest Number' r = (_, (0, refl))
-shortest LeftParen' r = (_, refl)
-shortest RightParen' r = (_, refl)
-shortest LeftSquare' r = (_, refl)
-shortest RightSquare' r = (_, refl)
-shortest Semicolon' r = (_, refl)
-shortest Colon' r = (_, refl)
-shortest Equals' r = (_, refl)
+-- a simple phrase of each symbol
+shortest : (a : Symbol) (r : List Token) → all_simple r ≡ true → (c : List Token) × Phrase a c r × (all_simple c ≡ true)
+shortest First r h = (_, (record { first = CellsOf (97 ∷ []) 1; others = [] }, refl), h)
+shortest More r h = (_, ([], refl), h)
+shortest Params r h = (_, ([], refl), h)
+shortest ParamsTail r h = (_, ([], refl), h)
+shortest Type' r h = (_, (zero, refl), h)
+shortest Length r h = (_, inl refl, h)
+shortest Block' r h = (_, (Done, refl), h)
+shortest Stmts r h = (_, (Done, refl), h)
+shortest Else' r h = (_, (NoElse, refl), h)
+shortest VarInit r h = (_, inl refl, h)
+shortest WordStmt r h = (_, inl (Value nought, refl), h)
+shortest Init' r h = (_, (Value nought, refl), h)
+shortest InitTail r h = (_, inl (inl refl), h)
+shortest Args r h = (_, ([], refl), h)
+shortest ArgsTail r h = (_, ([], refl), h)
+shortest Expr' r h = (_, (nought, refl), h)
+shortest ExprTail r h = (_, inl refl, h)
+shortest Operand' r h = (_, (Signed NoSign (Literal 0), refl), h)
+shortest Primary' r h = (_, (Literal 0, refl), h)
+shortest Word' r h = (_, (97 ∷ [], refl), h)
+shortest Number' r h = (_, (0, refl), h)
+shortest LeftParen' r h = (_, refl, h)
+shortest RightParen' r h = (_, refl, h)
+shortest LeftSquare' r h = (_, refl, h)
+shortest RightSquare' r h = (_, refl, h)
+shortest Semicolon' r h = (_, refl, h)
+shortest Colon' r h = (_, refl, h)
+shortest Equals' r h = (_, refl, h)
 
-pub completion : (s : List Symbol) (r : List Token) → (c : List Token) × Phrases s c r
-completion [] r = (r, refl)
-completion (a ∷ k) r =
-    let rest = completion k r in
-    let front = shortest a rest.0 in
-    (front.0, (rest.0, front.1, rest.1))
+pub completion : (s : List Symbol) (r : List Token) → all_simple r ≡ true → (c : List Token) × Phrases s c r × (all_simple c ≡ true)
+completion [] r h = (r, refl, h)
+completion (a ∷ k) r h =
+    let rest = completion k r h in
+    let front = shortest a rest.0 rest.2 in
+    (front.0, (rest.0, front.1, rest.1), front.2)
 
-pub begins : (xs : List Token) (s : List Symbol) → walk (First ∷ []) xs ≡ Some s → Begins xs
+-- what the machine goes through is begun
+pub begins : (xs : List Token) (s : List Symbol) → walk (First ∷ []) xs ≡ Some s → IsBegun xs
 begins xs s e =
-    let c = completion s [] in
+    let c = completion s [] refl in
     let h = walk_back xs (First ∷ []) s e c.0 [] c.1 in
-    (h.1.0, c.0, sym (h.1.1 ∙ ap (λ r. program_before h.1.0 r) h.2))
+    (h.1.0, c.0, sym (h.1.1 ∙ ap (λ r. program_before h.1.0 r) h.2), c.2)

@@ -1,8 +1,8 @@
 -- A list of tokens with a tree has no fault, and no list has two.
-use Rattle.std.proofs.Common.{◌≡◌, ℕ, List, [], ◌∷◌, ◌++◌, ◌⊎◌, inl, inr, length, refl, sym, subst, ap, ◌∙◌, append_assoc, true, false}
+use Rattle.std.proofs.Common.{◌≡◌, ℕ, List, [], ◌∷◌, ◌++◌, ◌⊎◌, inl, inr, length, refl, sym, subst, ap, ◌∙◌, append_assoc}
 use Rattle.fut_syntax.specs.declared.token.Token.{Token}
 use Rattle.fut_syntax.specs.Trees.{Program}
-use Rattle.fut_syntax.specs.Faults.{Begins, IsBad, IsGood, IsFault, IsWhole, is_full, open_after}
+use Rattle.fut_syntax.specs.Faults.{IsBad, IsGood, IsFault, IsWhole}
 
 no_bad : (p : Program) (xs before behind : List Token) (x : Token) → IsWhole xs p → xs ≡ before ++ x ∷ behind → IsBad before x → ⊥
 no_bad p xs before behind x whole e (inl none) = none (p, behind, whole.0 ∙ e ∙ sym (append_assoc before (x ∷ []) behind))
@@ -26,7 +26,7 @@ compare (x ∷ a) (y ∷ b) r s e = lift (compare a b r s (cc))
     lift (inr (inr h)) = inr (inr (h.0, h.1, cc, h.3))
 
 not_both : (before : List Token) (x : Token) → IsGood before x → IsBad before x → ⊥
-not_both before x good (inl none) = none good.0
+not_both before x good (inl none) = none (good.0.0, good.0.1, good.0.2)
 not_both before x good (inr full) = let room = good.1 in absurd (cc)
 
 earlier : (xs : List Token) (l l' : ℕ) (f : IsFault xs l) (g : IsFault xs l') (x : Token) (m : List Token) → g.before ≡ f.before ++ x ∷ m → f.token ∷ f.behind ≡ (x ∷ m) ++ g.token ∷ g.behind → ⊥

@@ -1,5 +1,5 @@
 -- Where the fault of a list of tokens stands.
-use Rattle.std.specs.Prelude.{◌≡◌, ℕ, ◌+◌, ◌-◌, ◌⊎◌, Bool, true, false, List, [], ◌∷◌, ◌++◌, length, cond, nat_le, ◌&&◌}
+use Rattle.std.specs.Prelude.{◌≡◌, ℕ, ◌+◌, ◌-◌, ◌⊎◌, Bool, true, false, List, [], ◌∷◌, ◌++◌, length, cond, nat_eq, nat_lt, nat_le, ◌&&◌}
 use Rattle.fut_syntax.specs.declared.token.Token.{Token}
 use Rattle.fut_syntax.specs.declared.token.Token.TheVariants as t
 use Rattle.fut_syntax.specs.Trees.{Program}
@@ -34,12 +34,34 @@ is_full d x = opens x && nat_le 64 d
 abbrev pub Begins : List Token → Type 0
 Begins xs = (p : Program) × (more : List Token) × (program_tokens p ≡ xs ++ more)
 
--- after these tokens this one can't come
+-- the word `a`
+abbrev pub is_a : List ℕ → Bool
+is_a [] = false
+is_a (b ∷ []) = nat_eq b 97
+is_a (b ∷ c ∷ w) = false
+
+-- keywords, signs and the end token, the word `a`, and the numbers 0 and 1
+abbrev pub is_simple : Token → Bool
+is_simple (t.Word w) = is_a w
+is_simple (t.Number n) = nat_lt n 2
+is_simple t.Scrap = false
+is_simple _ = true
+
+abbrev pub all_simple : List Token → Bool
+all_simple [] = true
+all_simple (x ∷ xs) = is_simple x && all_simple xs
+
+-- some program begins with these tokens and goes on with simple ones
+abbrev pub IsBegun : List Token → Type 0
+IsBegun xs = (p : Program) × (more : List Token) × (program_tokens p ≡ xs ++ more) × (all_simple more ≡ true)
+
+-- after these tokens this one can't come: no program at all has both, or it opens one bracket too many
 abbrev pub IsBad : List Token → Token → Type 0
 IsBad before x = (Begins (before ++ x ∷ []) → ⊥) ⊎ (is_full (open_after before 0) x ≡ true)
 
+-- after these tokens this one can come
 abbrev pub IsGood : List Token → Token → Type 0
-IsGood before x = Begins (before ++ x ∷ []) × (is_full (open_after before 0) x ≡ false)
+IsGood before x = IsBegun (before ++ x ∷ []) × (is_full (open_after before 0) x ≡ false)
 
 -- the first bad token is the one behind which `left` tokens stand
 pub record IsFault (xs : List Token) (left : ℕ) : Type 0 where

@@ -9,12 +9,12 @@ use Rattle.fut_syntax.specs.Trees.{Program}
 use Rattle.fut_syntax.specs.Tokens.{program_tokens}
 use Rattle.fut_syntax.specs.Views.{program_tree}
 use Rattle.fut_syntax.specs.Machine.{Symbol, First, walk, run64}
-use Rattle.fut_syntax.specs.Faults.{Begins, IsFault, IsWhole}
+use Rattle.fut_syntax.specs.Faults.{IsBegun, IsFault, IsWhole}
 use Rattle.fut_syntax.specs.Answers.{IsAnswer}
 
--- what the machine goes through is the beginning of a program
+-- what the machine goes through is the beginning of a program, which goes on with simple tokens
 abbrev pub Completions : Type 0
-Completions = (xs : List Token) (s : List Symbol) → walk (First ∷ []) xs ≡ Some s → Begins xs
+Completions = (xs : List Token) (s : List Symbol) → walk (First ∷ []) xs ≡ Some s → IsBegun xs
 
 -- where the run stops is the fault
 abbrev pub StopIsFault : Type 0

@@ -26,4 +26,3 @@ expr-returns-in-None t c = (
   after (after (expr_opens c.args.depth c.args.cursor.now) c.in_ok-left.ensures.0) (anywhere c.in-None.ensures.0),
   c.in_ok-left.ensures.1 ∙ ap (λ q. operand_before (operand_tree c.in_ok-left.left) q) c.in-None.ensures.1,
 )
-
