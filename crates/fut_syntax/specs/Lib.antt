@@ -1,2 +1,10 @@
 pub mod Small
 pub mod Trees
+pub mod Tokens
+pub mod Faults
+pub mod Machine
+pub mod Phrases
+pub mod Views
+pub mod Steps
+pub mod Answers
+pub mod Laws

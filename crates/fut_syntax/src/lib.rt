@@ -1,5 +1,14 @@
 //! The language: tokens, grammar, trees and texts of programs.
 #![tactic(auto)]
 
+mod cursor;
+mod exprs;
+mod inits;
+mod items;
+pub mod laws;
+pub mod parser;
+mod signs;
+mod stmts;
 pub mod token;
 pub mod tree;
+mod types;

@@ -1,0 +1,13 @@
+pub mod Splits
+pub mod Viable
+pub mod Through
+pub mod Exact
+pub mod Once
+pub mod Whole
+pub mod Longer
+pub mod Cursors
+pub mod Chains
+pub mod Made
+pub mod Counted
+pub mod Wholes
+pub mod Tops

@@ -1,0 +1,37 @@
+//! Laws over the grammar and its fault places.
+ghost use Rattle.fut_syntax.specs.Laws.{Completions, StopIsFault, OneTree, OneFault, NoFault, ReadsAgain, SecondOperator};
+
+/// What the grammar's machine goes through is the beginning of a program.
+pub fn completions()
+    ensures { Completions }
+{}
+
+/// Where the grammar's machine stops is the fault.
+pub fn stop_is_fault()
+    ensures { StopIsFault }
+{}
+
+/// A list of tokens has at most one tree.
+pub fn one_tree()
+    ensures { OneTree }
+{}
+
+/// A list of tokens has one fault at most.
+pub fn one_fault()
+    ensures { OneFault }
+{}
+
+/// A list of tokens with a tree has no fault.
+pub fn no_fault()
+    ensures { NoFault }
+{}
+
+/// What a tree spells is read as this tree.
+pub fn reads_again()
+    ensures { ReadsAgain }
+{}
+
+/// The second operator of an expression is a fault.
+pub fn second_operator()
+    ensures { SecondOperator }
+{}
