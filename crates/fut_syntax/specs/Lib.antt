@@ -1,2 +1,4 @@
 pub mod Cut
+pub mod Parts
+pub mod Runs
 pub mod Trees

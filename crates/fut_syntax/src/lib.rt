@@ -2,5 +2,7 @@
 #![tactic(auto)]
 
 mod kind;
+mod lexer;
+mod scan;
 pub mod token;
 pub mod tree;
