@@ -2,7 +2,7 @@
 use Rattle.std.proofs.Common.{◌≡◌, ℕ, Bool, true, false, ◌⊎◌, inl, inr, refl, ap, ◌∙◌, sym, arith}
 use Rattle.std.specs.Prelude.{nat_eq, ◌&&◌, ◌||◌, if◌then◌else◌}
 use Rattle.std.proofs.lemmas.Bool.Decides.{nat_tests}
-use Rattle.fut_syntax.specs.Cut.{is_blank, is_digit, is_letter, is_word, Class, Letter, Digit, Blank, Marked, class_of, mark_of}
+use Rattle.fut_syntax.specs.Cut.{is_blank, is_digit, is_letter, is_word, Class, Letter, Digit, Blank, Other, class_of, mark_of}
 
 pub and_left : (a b : Bool) → (a && b) ≡ true → a ≡ true
 and_left true b h = refl
@@ -20,7 +20,7 @@ pub is_one : (b n : ℕ) → nat_eq b n ≡ true → b ≡ n
 is_one b n e = grind (arith, nat_tests)
 
 pub class_letter : (b : ℕ) → is_letter b ≡ true → class_of b ≡ Letter
-class_letter b h = ap (λ q. if q then Letter else (if is_digit b then Digit else (if is_blank b then Blank else Marked (mark_of b)))) h
+class_letter b h = ap (λ q. if q then Letter else (if is_digit b then Digit else (if is_blank b then Blank else Other (mark_of b)))) h
 
 pub letter_word : (b : ℕ) → is_letter b ≡ true → is_word b ≡ true
 letter_word b h = ap (λ q. q || is_digit b) h
@@ -30,8 +30,8 @@ digit_no_letter b h = grind (arith, nat_tests)
 
 pub class_digit : (b : ℕ) → is_digit b ≡ true → class_of b ≡ Digit
 class_digit b h =
-    ap (λ q. if q then Letter else (if is_digit b then Digit else (if is_blank b then Blank else Marked (mark_of b)))) (digit_no_letter b h)
-    ∙ ap (λ q. if q then Digit else (if is_blank b then Blank else Marked (mark_of b))) h
+    ap (λ q. if q then Letter else (if is_digit b then Digit else (if is_blank b then Blank else Other (mark_of b)))) (digit_no_letter b h)
+    ∙ ap (λ q. if q then Digit else (if is_blank b then Blank else Other (mark_of b))) h
 
 pub blank_class : (b : ℕ) → is_blank b ≡ true → class_of b ≡ Blank
 blank_class b h =

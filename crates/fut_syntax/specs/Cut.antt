@@ -30,49 +30,59 @@ abbrev pub each : (ℕ → Bool) → List ℕ → Bool
 each p [] = true
 each p (b ∷ bs) = p b && each p bs
 
--- the symbols by their first byte, some of which go on by an equals sign; any other byte is a scrap
-unfoldable pub mark_of : ℕ → Mark
-mark_of b =
-    if nat_eq b 40 then Alone t.LeftParen
-    else (if nat_eq b 41 then Alone t.RightParen
-    else (if nat_eq b 91 then Alone t.LeftSquare
-    else (if nat_eq b 93 then Alone t.RightSquare
-    else (if nat_eq b 123 then Alone t.LeftBrace
-    else (if nat_eq b 125 then Alone t.RightBrace
-    else (if nat_eq b 44 then Alone t.Comma
-    else (if nat_eq b 59 then Alone t.Semicolon
-    else (if nat_eq b 58 then Alone t.Colon
-    else (if nat_eq b 43 then Alone t.Plus
-    else (if nat_eq b 45 then Alone t.Minus
-    else (if nat_eq b 42 then Alone t.Star
-    else (if nat_eq b 47 then Alone t.Slash
-    else (if nat_eq b 37 then Alone t.Percent
-    else (if nat_eq b 38 then Alone t.Ampersand
-    else (if nat_eq b 124 then Alone t.Bar
-    else (if nat_eq b 61 then Paired t.Equals t.EqualEqual
-    else (if nat_eq b 33 then Paired t.Bang t.BangEqual
-    else (if nat_eq b 60 then Paired t.Less t.LessEqual
-    else (if nat_eq b 62 then Paired t.Greater t.GreaterEqual
-    else Alone t.Scrap)))))))))))))))))))
+-- what a table has at the first key that passes a test
+abbrev pub look_up : {K A : Type 0} → (K → Bool) → List (K × A) → Option A
+look_up test [] = None
+look_up test (entry ∷ table) = if test entry.0 then Some entry.1 else look_up test table
 
--- the keywords
+abbrev pub keywords : List (List ℕ × Token)
+keywords =
+    (codes "cells", t.Cells)
+    ∷ (codes "task", t.Task)
+    ∷ (codes "int", t.Int)
+    ∷ (codes "fut", t.Fut)
+    ∷ (codes "var", t.Var)
+    ∷ (codes "if", t.If)
+    ∷ (codes "else", t.Else)
+    ∷ (codes "while", t.While)
+    ∷ (codes "spawn", t.Spawn)
+    ∷ (codes "sync", t.Sync)
+    ∷ (codes "create", t.Create)
+    ∷ (codes "get", t.Get)
+    ∷ (codes "return", t.Return)
+    ∷ (codes "add", t.Add)
+    ∷ []
+
+-- the symbols by their first byte, in the order of the grammar's table; some of them go on by an equals sign
+abbrev pub symbols : List (ℕ × Mark)
+symbols =
+    (40, Alone t.LeftParen)
+    ∷ (41, Alone t.RightParen)
+    ∷ (91, Alone t.LeftSquare)
+    ∷ (93, Alone t.RightSquare)
+    ∷ (123, Alone t.LeftBrace)
+    ∷ (125, Alone t.RightBrace)
+    ∷ (44, Alone t.Comma)
+    ∷ (59, Alone t.Semicolon)
+    ∷ (58, Alone t.Colon)
+    ∷ (61, Paired t.Equals t.EqualEqual)
+    ∷ (43, Alone t.Plus)
+    ∷ (45, Alone t.Minus)
+    ∷ (42, Alone t.Star)
+    ∷ (47, Alone t.Slash)
+    ∷ (37, Alone t.Percent)
+    ∷ (38, Alone t.Ampersand)
+    ∷ (124, Alone t.Bar)
+    ∷ (33, Paired t.Bang t.BangEqual)
+    ∷ (60, Paired t.Less t.LessEqual)
+    ∷ (62, Paired t.Greater t.GreaterEqual)
+    ∷ []
+
 unfoldable pub keyword_of : List ℕ → Option Token
-keyword_of w =
-    if bytes_eq w (codes "cells") then Some t.Cells
-    else (if bytes_eq w (codes "task") then Some t.Task
-    else (if bytes_eq w (codes "int") then Some t.Int
-    else (if bytes_eq w (codes "fut") then Some t.Fut
-    else (if bytes_eq w (codes "var") then Some t.Var
-    else (if bytes_eq w (codes "if") then Some t.If
-    else (if bytes_eq w (codes "else") then Some t.Else
-    else (if bytes_eq w (codes "while") then Some t.While
-    else (if bytes_eq w (codes "spawn") then Some t.Spawn
-    else (if bytes_eq w (codes "sync") then Some t.Sync
-    else (if bytes_eq w (codes "create") then Some t.Create
-    else (if bytes_eq w (codes "get") then Some t.Get
-    else (if bytes_eq w (codes "return") then Some t.Return
-    else (if bytes_eq w (codes "add") then Some t.Add
-    else None)))))))))))))
+keyword_of w = look_up (bytes_eq w) keywords
+
+unfoldable pub mark_of : ℕ → Option Mark
+mark_of b = look_up (nat_eq b) symbols
 
 -- a run of word bytes that is no keyword: a word, or one too long
 abbrev pub plain_word : List ℕ → Token
@@ -108,21 +118,23 @@ pub data Class : Type 0 where
   Letter : Class
   Digit : Class
   Blank : Class
-  Marked : Mark → Class
+  Other : Option Mark → Class
 
 abbrev pub class_of : ℕ → Class
-class_of b = if is_letter b then Letter else (if is_digit b then Digit else (if is_blank b then Blank else Marked (mark_of b)))
+class_of b = if is_letter b then Letter else (if is_digit b then Digit else (if is_blank b then Blank else Other (mark_of b)))
 
 -- the token of a first byte of some class and the bytes behind it, if they are one together
 abbrev pub token_by : Class → ℕ → List ℕ → Option Token
 token_by Letter b bs = if each is_word bs then Some (word_token (b ∷ bs)) else None
 token_by Digit b bs = if each is_digit bs then Some (number_token (b ∷ bs)) else None
 token_by Blank b bs = None
-token_by (Marked (Alone x)) b [] = Some x
-token_by (Marked (Alone x)) b (c ∷ bs) = None
-token_by (Marked (Paired x y)) b [] = Some x
-token_by (Marked (Paired x y)) b (c ∷ []) = if nat_eq c 61 then Some y else None
-token_by (Marked (Paired x y)) b (c ∷ d ∷ bs) = None
+token_by (Other None) b [] = Some t.Scrap
+token_by (Other None) b (c ∷ bs) = None
+token_by (Other (Some (Alone x))) b [] = Some x
+token_by (Other (Some (Alone x))) b (c ∷ bs) = None
+token_by (Other (Some (Paired x y))) b [] = Some x
+token_by (Other (Some (Paired x y))) b (c ∷ []) = if nat_eq c 61 then Some y else None
+token_by (Other (Some (Paired x y))) b (c ∷ d ∷ bs) = None
 
 -- which token some bytes are, if they are one
 abbrev pub token_of : List ℕ → Option Token

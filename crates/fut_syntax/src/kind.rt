@@ -1,25 +1,25 @@
-//! Keywords, and what a byte begins that is no letter, digit or blank.
+//! Keywords and symbols.
 ghost use Rattle.std.specs.Prelude.{◌≡◌};
 ghost use Rattle.std.specs.Str.{bytes_eq};
 ghost use Rattle.fut_syntax.specs.Cut.{keyword_of, mark_of};
 
 use crate::token::Token;
 
-/// What a byte begins that is no letter, digit or blank.
+/// The symbols that a byte begins.
 #[derive(Drop)]
 pub enum Mark {
-    /// A token of one byte.
+    /// One symbol of one byte.
     Alone(Token),
-    /// A token of one byte, and the one that it is with `=` behind it.
+    /// A symbol of one byte, and the one that it is with `=` behind it.
     Paired(Token, Token),
 }
 
-/// What a byte begins that is no letter, digit or blank.
+/// The symbols that a byte begins, if there are any.
 #[tactic(auto, unfolding(crate::specs::Cut::mark_of))]
-pub fn mark_of(b: u8) -> Mark
+pub fn mark_of(b: u8) -> Option<Mark>
     ensures { result ≡ mark_of b }
 {
-    match b {
+    let mark = match b {
         b'(' => Mark::Alone(Token::LeftParen),
         b')' => Mark::Alone(Token::RightParen),
         b'[' => Mark::Alone(Token::LeftSquare),
@@ -29,6 +29,7 @@ pub fn mark_of(b: u8) -> Mark
         b',' => Mark::Alone(Token::Comma),
         b';' => Mark::Alone(Token::Semicolon),
         b':' => Mark::Alone(Token::Colon),
+        b'=' => Mark::Paired(Token::Equals, Token::EqualEqual),
         b'+' => Mark::Alone(Token::Plus),
         b'-' => Mark::Alone(Token::Minus),
         b'*' => Mark::Alone(Token::Star),
@@ -36,12 +37,12 @@ pub fn mark_of(b: u8) -> Mark
         b'%' => Mark::Alone(Token::Percent),
         b'&' => Mark::Alone(Token::Ampersand),
         b'|' => Mark::Alone(Token::Bar),
-        b'=' => Mark::Paired(Token::Equals, Token::EqualEqual),
         b'!' => Mark::Paired(Token::Bang, Token::BangEqual),
         b'<' => Mark::Paired(Token::Less, Token::LessEqual),
         b'>' => Mark::Paired(Token::Greater, Token::GreaterEqual),
-        _ => Mark::Alone(Token::Scrap),
-    }
+        _ => return None,
+    };
+    Some(mark)
 }
 
 fn is(word: &[u8], name: &[u8]) -> bool

@@ -167,8 +167,12 @@ pub fn mark(text: &[u8]) -> Lexeme
     ensures { IsLexeme text.now result.token result.length }
 {
     match mark_of(text[0]) {
-        Mark::Alone(token) => Lexeme { token, length: 1 },
-        Mark::Paired(token, longer) => {
+        None => Lexeme {
+            token: Token::Scrap,
+            length: 1,
+        },
+        Some(Mark::Alone(token)) => Lexeme { token, length: 1 },
+        Some(Mark::Paired(token, longer)) => {
             if text.len() >= 2 && text[1] == b'=' {
                 Lexeme {
                     token: longer,
