@@ -1,6 +1,6 @@
 -- The tokens of a text and their places.
-use Rattle.std.specs.Prelude.{◌≡◌, ℕ, ◌+◌, Bool, true, false, List, [], ◌∷◌, ◌++◌, reverse, count_by, nat_eq}
-use Rattle.std.specs.List.{prefix_len}
+use Rattle.std.specs.Prelude.{◌≡◌, ℕ, ◌+◌, Bool, true, false, List, [], ◌∷◌, ◌++◌, count_by, nat_eq}
+use Rattle.std.specs.List.{suffix_len}
 use Rattle.fut_syntax.specs.declared.token.Token.{Token}
 use Rattle.fut_syntax.specs.declared.token.Token.TheVariants as t
 use Rattle.fut_syntax.specs.declared.token.Place.{Place}
@@ -15,7 +15,7 @@ tokens_of (Lexeme bs x ∷ ps) = x ∷ tokens_of ps
 
 -- the place of the byte that stands behind some bytes: by the line feeds among them, and the bytes since the last one
 abbrev pub place_after : List ℕ → Place
-place_after before = record { line = 1 + count_by (λ b. nat_eq b 10) before; column = 1 + prefix_len is_inline (reverse before) }
+place_after before = record { line = 1 + count_by (λ b. nat_eq b 10) before; column = 1 + suffix_len is_inline before }
 
 -- the places of the tokens among some pieces that stand behind these bytes, and then that of the end token
 abbrev pub places_of : List ℕ → List Piece → List Place
