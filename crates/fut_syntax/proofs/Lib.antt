@@ -4,5 +4,7 @@ pub mod Longest
 pub mod Never
 pub mod Once
 pub mod Places
+pub mod Spacing
+pub mod Spelled
 pub mod Tests
 pub mod Values

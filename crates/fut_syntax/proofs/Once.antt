@@ -3,6 +3,8 @@ use Rattle.std.proofs.Common.{◌≡◌, ℕ, Bool, true, false, List, [], ◌�
 use Rattle.std.specs.Prelude.{Some, None, nat_eq, ◌&&◌}
 use Rattle.fut_syntax.specs.declared.token.Token.{Token}
 use Rattle.fut_syntax.specs.Cut.{token_of, token_by, IsLongest, Blank, class_of, is_blank, is_inline, each, EndsLine, starts_comment, Piece, Space, Comment, Lexeme, bytes_of, Fits, IsCut}
+use Rattle.fut_syntax.specs.declared.token.Place.{Place}
+use Rattle.fut_syntax.specs.Lexed.{tokens_of, places_of, IsTokensOf}
 use Rattle.fut_syntax.proofs.Tests.{and_right, blank_class}
 
 -- the first of two fronts of a list is shorter
@@ -80,3 +82,8 @@ cut_once (p ∷ ps) [] bytes f g = absurd (no_piece p f.0 f.2 (sym f.1 ∙ g))
 cut_once (p ∷ ps) (q ∷ qs) bytes f g =
     let h = piece_once p q f.0 g.0 f.2 g.2 (sym f.1 ∙ g.1) in
     let k = cut_once ps qs f.0 f.3 (subst (λ (r : List ℕ). IsCut r qs) (sym h.1) g.3) in (cc)
+
+pub tokens_once : (bytes : List ℕ) (xs ys : List Token) (ps qs : List Place) → IsTokensOf bytes xs ps → IsTokensOf bytes ys qs → (xs ≡ ys) × (ps ≡ qs)
+tokens_once bytes xs ys ps qs f g =
+    let e = cut_once f.pieces g.pieces bytes f.cut g.cut in
+    (f.are ∙ ap tokens_of e ∙ sym g.are, f.stand ∙ ap (places_of []) e ∙ sym g.stand)

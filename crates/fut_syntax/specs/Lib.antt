@@ -2,6 +2,8 @@ pub mod Cut
 pub mod Ended
 pub mod Lexed
 pub mod Lexing
+pub mod LexLaws
 pub mod Parts
 pub mod Runs
+pub mod Spelling
 pub mod Trees

@@ -3,6 +3,7 @@
 
 mod kind;
 mod lexer;
+mod lexer_laws;
 mod scan;
 pub mod token;
 pub mod tree;

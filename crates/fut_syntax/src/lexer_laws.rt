@@ -1,0 +1,22 @@
+//! Laws of tokens.
+ghost use Rattle.fut_syntax.specs.LexLaws.{OneCut, OneTokenList, SpacedReads, RespacedReads};
+
+/// A text is cut in one way.
+pub fn one_cut()
+    ensures { OneCut }
+{}
+
+/// A text has one list of tokens, at one list of places.
+pub fn one_token_list()
+    ensures { OneTokenList }
+{}
+
+/// Readable tokens that are written with blanks behind them are read as these tokens.
+pub fn spaced_reads()
+    ensures { SpacedReads }
+{}
+
+/// The tokens of a text, written again with blanks behind them, are read as these tokens.
+pub fn respaced_reads()
+    ensures { RespacedReads }
+{}
