@@ -6,7 +6,9 @@ ghost use Rattle.fut_syntax.specs.Lexed.{IsTokensOf, HasComments, place_after};
 ghost use Rattle.fut_syntax.specs.Lexing.{tokens_in, places_in, is_comment, place_on};
 ghost use Rattle.fut_syntax.specs.Parts.{IsLexeme, IsPart};
 
-use crate::scan::{Lexeme, is_blank, is_digit, is_letter, line_run, mark, number, starts_comment, word};
+use crate::scan::{
+    Lexeme, is_blank, is_digit, is_letter, line_run, mark, number, starts_comment, word,
+};
 use crate::token::{Place, Token};
 use fut_base::list::NoMemory;
 use std::alloc::Global;

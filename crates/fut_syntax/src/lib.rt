@@ -4,6 +4,13 @@
 mod kind;
 mod lexer;
 mod lexer_laws;
+#[cfg(test)]
+mod lexer_tests;
 mod scan;
+mod spelling;
 pub mod token;
 pub mod tree;
+
+pub use lexer::{Lexed, tokens};
+pub use lexer_laws::{one_cut, one_token_list, respaced_reads, spaced_reads};
+pub use spelling::fixed_spelling;
