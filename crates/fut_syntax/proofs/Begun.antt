@@ -1,5 +1,5 @@
 -- A text is cut part by part.
-use Rattle.std.proofs.Common.{◌≡◌, ℕ, ◌+◌, ◌<◌, ◌≤◌, Bool, true, false, List, [], ◌∷◌, ◌++◌, length, take, drop, refl, sym, subst, ap, ◌∙◌, arith, append_assoc}
+use Rattle.std.proofs.Common.{◌≡◌, ℕ, suc, ◌+◌, ◌≤◌, Bool, true, false, List, [], ◌∷◌, ◌++◌, length, take, drop, refl, sym, subst, ap, ◌∙◌, append_assoc}
 use Rattle.std.specs.Prelude.{◌||◌}
 use Rattle.std.proofs.lemmas.List.{take-append-drop, drop-drop, drop_all}
 use Rattle.std.proofs.Math.Seq.{take-add}
@@ -8,7 +8,7 @@ use Rattle.fut_syntax.specs.declared.token.Token.TheVariants as t
 use Rattle.fut_syntax.specs.declared.token.Place.{Place}
 use Rattle.fut_syntax.specs.declared.lexer.Part.{Part}
 use Rattle.fut_syntax.specs.declared.lexer.Part.TheVariants as part
-use Rattle.fut_syntax.specs.Cut.{Piece, bytes_of, Fits, IsCut}
+use Rattle.fut_syntax.specs.Cut.{Piece, Space, Comment, Lexeme, bytes_of, Fits, IsCut}
 use Rattle.fut_syntax.specs.Ended.{IsEnded}
 use Rattle.fut_syntax.specs.Lexed.{tokens_of, places_of, place_after, has_comment, IsTokensOf, HasComments}
 use Rattle.fut_syntax.specs.Lexing.{tokens_in, places_in, is_comment, IsBegun}
@@ -79,10 +79,18 @@ begun_on text at n x place tokens tokens' places places' comments comments' p b 
       ∙ ap (λ q. q || has_comment ps) (sym ec);
 }
 
+-- each token has its place
+same_length : (before : List ℕ) (ps : List Piece) → length (places_of before ps) ≡ length (tokens_of ps)
+same_length before [] = refl
+same_length before (Space b ∷ ps) = same_length (before ++ b ∷ []) ps
+same_length before (Comment c ∷ ps) = same_length (before ++ 47 ∷ 47 ∷ c) ps
+same_length before (Lexeme bs x ∷ ps) = ap (λ n. suc n) (same_length (before ++ bs) ps)
+
 -- the whole text was cut
 pub record IsWhole (text : List ℕ) (tokens : List Token) (places : List Place) (comments : Bool) : Type 0 where
   pub of : IsTokensOf text tokens places
   pub ends : IsEnded tokens
+  pub paired : length places ≡ length tokens
   pub told : HasComments text comments
 
 tokens_end : (text : List ℕ) (tokens : List Token) (places : List Place) → IsTokensOf text tokens places → IsEnded tokens
@@ -100,5 +108,6 @@ begun_end text at place tokens tokens' places places' comments comments' past b 
     record {
       of = of;
       ends = tokens_end text tokens' places' of;
+      paired = ap length of.stand ∙ same_length [] of.pieces ∙ ap length (sym of.are);
       told = λ qs d. b.told [] (drop_all at text past) qs d ∙ or_false comments ∙ sym ec;
     }

@@ -1,10 +1,10 @@
 -- The parts at the front of a text.
-use Rattle.std.proofs.Common.{◌≡◌, ℕ, zero, suc, ◌<◌, Bool, true, false, List, [], ◌∷◌, ◌++◌, length, take, drop, get_or, refl, sym, subst, ap, ◌∙◌, arith, length-drop}
-use Rattle.std.specs.Prelude.{Some, None, if◌then◌else◌, nat_eq, ◌&&◌}
+use Rattle.std.proofs.Common.{◌≡◌, ℕ, zero, suc, ◌<◌, Bool, true, false, List, [], ◌∷◌, length, take, drop, get_or, refl, sym, ap, ◌∙◌, arith}
+use Rattle.std.specs.Prelude.{Some, None, if◌then◌else◌, nat_eq}
 use Rattle.std.proofs.lemmas.List.{take-append-drop}
 use Rattle.fut_syntax.specs.declared.token.Token.{Token}
 use Rattle.fut_syntax.specs.declared.lexer.Part.TheVariants as part
-use Rattle.fut_syntax.specs.Cut.{Letter, Digit, class_of, each, is_letter, is_digit, is_word, is_blank, is_inline, word_token, number_token, token_by, EndsLine, Space, Comment, Lexeme, starts_comment}
+use Rattle.fut_syntax.specs.Cut.{each, is_letter, is_digit, is_word, is_blank, is_inline, word_token, number_token, token_by, EndsLine, Space, Comment, Lexeme, starts_comment}
 use Rattle.fut_syntax.specs.Parts.{IsLexeme, IsPart}
 use Rattle.fut_syntax.specs.Runs.{Ends, IsRun}
 use Rattle.fut_syntax.proofs.Longest.{number_longest, word_longest}

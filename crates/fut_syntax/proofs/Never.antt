@@ -6,7 +6,7 @@ use Rattle.fut_syntax.specs.declared.token.Token.{Token}
 use Rattle.fut_syntax.specs.declared.token.Token.TheVariants as t
 use Rattle.fut_syntax.specs.declared.kind.Mark.{Mark}
 use Rattle.fut_syntax.specs.declared.kind.Mark.TheVariants.{Alone, Paired}
-use Rattle.fut_syntax.specs.Cut.{look_up, keywords, symbols, keyword_of, mark_of, each, is_letter, is_blank, is_word, is_digit, word_or, plain_word, word_token, has_leading_zero, in_range, value_from, number_token, Class, Letter, Digit, Blank, Other, class_of, token_by, token_of, Piece, Space, Comment, Lexeme, IsCut}
+use Rattle.fut_syntax.specs.Cut.{look_up, keywords, symbols, keyword_of, mark_of, each, is_letter, is_blank, is_word, is_digit, word_or, word_token, has_leading_zero, in_range, value_from, number_token, Letter, Digit, Blank, Other, token_by, token_of, Piece, Space, Comment, Lexeme, IsCut}
 use Rattle.fut_syntax.specs.Ended.{IsEnded}
 use Rattle.fut_syntax.specs.Lexed.{tokens_of}
 use Rattle.fut_syntax.proofs.Tests.{and_left, and_right}

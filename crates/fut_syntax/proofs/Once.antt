@@ -1,6 +1,6 @@
 -- A text is cut in one way.
-use Rattle.std.proofs.Common.{◌≡◌, ℕ, Bool, true, false, List, [], ◌∷◌, ◌++◌, ◌⊎◌, inl, inr, refl, sym, subst, ap, ◌∙◌}
-use Rattle.std.specs.Prelude.{Some, None, nat_eq, ◌&&◌}
+use Rattle.std.proofs.Common.{◌≡◌, ℕ, true, false, List, [], ◌∷◌, ◌++◌, ◌⊎◌, inl, inr, refl, sym, subst, ap, ◌∙◌}
+use Rattle.std.specs.Prelude.{Some, None, ◌&&◌}
 use Rattle.fut_syntax.specs.declared.token.Token.{Token}
 use Rattle.fut_syntax.specs.Cut.{token_of, token_by, IsLongest, Blank, class_of, is_blank, is_inline, each, EndsLine, starts_comment, Piece, Space, Comment, Lexeme, bytes_of, Fits, IsCut}
 use Rattle.fut_syntax.specs.declared.token.Place.{Place}

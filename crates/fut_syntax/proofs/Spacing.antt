@@ -1,12 +1,12 @@
 -- Tokens that are written with blanks between are cut into these tokens.
-use Rattle.std.proofs.Common.{◌≡◌, ℕ, Bool, true, false, List, [], ◌∷◌, ◌++◌, ◌⊎◌, inl, inr, refl, sym, subst, ap, ◌∙◌, arith}
+use Rattle.std.proofs.Common.{◌≡◌, ℕ, Bool, true, false, List, [], ◌∷◌, ◌++◌, refl, sym, subst, ap, ◌∙◌, arith}
 use Rattle.std.specs.Prelude.{Some, None, nat_eq, ◌&&◌, ◌||◌, if◌then◌else◌}
 use Rattle.std.proofs.lemmas.Bool.Decides.{nat_tests}
 use Rattle.fut_syntax.specs.declared.token.Token.{Token}
 use Rattle.fut_syntax.specs.declared.token.Token.TheVariants as t
 use Rattle.fut_syntax.specs.declared.token.Place.{Place}
 use Rattle.fut_syntax.specs.declared.kind.Mark.TheVariants.{Alone, Paired}
-use Rattle.fut_syntax.specs.Cut.{Class, Letter, Digit, Blank, Other, class_of, mark_of, each, is_blank, is_word, is_digit, word_token, number_token, token_by, token_of, IsLongest, starts_comment, Piece, Space, Comment, Lexeme, IsCut}
+use Rattle.fut_syntax.specs.Cut.{Class, Letter, Digit, Blank, Other, class_of, mark_of, is_blank, is_word, is_digit, word_token, number_token, token_by, token_of, IsLongest, starts_comment, Piece, Space, Comment, Lexeme, IsCut}
 use Rattle.fut_syntax.specs.Lexed.{tokens_of, places_of, IsTokensOf}
 use Rattle.fut_syntax.specs.Spelling.{spelling, Spaced, spaced, ended_tokens, IsReadable, AreReadable, AreBlank, is_scrap, has_scrap}
 use Rattle.fut_syntax.proofs.Longest.{each_not}

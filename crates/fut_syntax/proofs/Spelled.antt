@@ -1,6 +1,6 @@
 -- A token of a text is written as it stands there.
-use Rattle.std.proofs.Common.{◌≡◌, ◌≢◌, ℕ, zero, suc, ◌<◌, ◌≤◌, Bool, true, false, List, [], ◌∷◌, ◌++◌, length, get_or, ◌⊎◌, inl, inr, refl, sym, subst, ap, ◌∙◌, arith, rules, decimal}
-use Rattle.std.specs.Prelude.{Option, Some, None, nat_eq, nat_le, ◌&&◌, if◌then◌else◌, Contains}
+use Rattle.std.proofs.Common.{◌≡◌, ◌≢◌, ℕ, ◌<◌, ◌≤◌, Bool, true, false, List, [], ◌∷◌, length, get_or, refl, sym, ap, ◌∙◌, arith, rules, decimal}
+use Rattle.std.specs.Prelude.{Option, Some, None, nat_eq, nat_le, ◌&&◌, if◌then◌else◌}
 use Rattle.std.specs.Str.{bytes_eq}
 use Rattle.std.proofs.lemmas.Bool.Decides.{nat_tests}
 use Rattle.std.proofs.lemmas.Fmt.{decimal-digits_value}
@@ -8,11 +8,9 @@ use Rattle.std.proofs.lemmas.Slice.Eq.{bytes_eq-Decides}
 use Rattle.std.proofs.lemmas.Str.Parse.{IsNumeralModel, numerals_by_fold}
 use Rattle.fut_syntax.specs.declared.token.Token.{Token}
 use Rattle.fut_syntax.specs.declared.token.Token.TheVariants as t
-use Rattle.fut_syntax.specs.declared.token.Place.{Place}
 use Rattle.fut_syntax.specs.declared.kind.Mark.{Mark}
 use Rattle.fut_syntax.specs.declared.kind.Mark.TheVariants.{Alone, Paired}
-use Rattle.fut_syntax.specs.Cut.{look_up, keywords, symbols, keyword_of, mark_of, each, is_letter, is_blank, is_word, is_digit, word_or, plain_word, word_token, has_leading_zero, in_range, value_from, number_token, Class, Letter, Digit, Blank, Other, class_of, token_by, token_of, Piece, Space, Comment, Lexeme, IsCut}
-use Rattle.fut_syntax.specs.Lexed.{tokens_of, IsTokensOf}
+use Rattle.fut_syntax.specs.Cut.{look_up, keywords, symbols, keyword_of, mark_of, each, is_letter, is_blank, is_word, is_digit, word_or, word_token, has_leading_zero, value_from, number_token, Letter, Digit, Blank, Other, token_by, token_of}
 use Rattle.fut_syntax.specs.Spelling.{spelling, IsReadable}
 use Rattle.fut_syntax.proofs.Tests.{and_left, and_right, is_one}
 

@@ -1,8 +1,8 @@
 -- What tests of bytes tell.
-use Rattle.std.proofs.Common.{◌≡◌, ℕ, Bool, true, false, ◌⊎◌, inl, inr, refl, ap, ◌∙◌, sym, arith}
+use Rattle.std.proofs.Common.{◌≡◌, ℕ, Bool, true, false, ◌⊎◌, inl, inr, refl, ap, ◌∙◌, arith}
 use Rattle.std.specs.Prelude.{nat_eq, ◌&&◌, ◌||◌, if◌then◌else◌}
 use Rattle.std.proofs.lemmas.Bool.Decides.{nat_tests}
-use Rattle.fut_syntax.specs.Cut.{is_blank, is_digit, is_letter, is_word, Class, Letter, Digit, Blank, Other, class_of, mark_of}
+use Rattle.fut_syntax.specs.Cut.{is_blank, is_digit, is_letter, is_word, Letter, Digit, Blank, Other, class_of, mark_of}
 
 pub and_left : (a b : Bool) → (a && b) ≡ true → a ≡ true
 and_left true b h = refl

@@ -4,7 +4,7 @@ use Rattle.std.specs.List.{suffix_len}
 use Rattle.fut_syntax.specs.declared.token.Token.{Token}
 use Rattle.fut_syntax.specs.declared.token.Token.TheVariants as t
 use Rattle.fut_syntax.specs.declared.token.Place.{Place}
-use Rattle.fut_syntax.specs.Cut.{is_inline, Piece, Space, Comment, Lexeme, bytes_of, IsCut}
+use Rattle.fut_syntax.specs.Cut.{is_inline, Piece, Space, Comment, Lexeme, IsCut}
 
 -- the tokens among some pieces, and then the end token
 abbrev pub tokens_of : List Piece → List Token

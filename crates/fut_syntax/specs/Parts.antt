@@ -1,5 +1,5 @@
 -- The first part of a text is a piece of its cut.
-use Rattle.std.specs.Prelude.{◌≡◌, ℕ, ◌<◌, ◌≤◌, List, [], ◌∷◌, length, take, drop, Option, Some, None, if◌then◌else◌, nat_le}
+use Rattle.std.specs.Prelude.{◌≡◌, ℕ, ◌<◌, ◌≤◌, List, length, take, drop, Option, Some, None, if◌then◌else◌, nat_le}
 use Rattle.fut_syntax.specs.declared.token.Token.{Token}
 use Rattle.fut_syntax.specs.declared.lexer.Part.{Part}
 use Rattle.fut_syntax.specs.declared.lexer.Part.TheVariants as part

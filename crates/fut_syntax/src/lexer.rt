@@ -140,11 +140,13 @@ fn place_at(text: &[u8], place: Place, from: usize, to: usize) -> Place
     here
 }
 
-/// The tokens of a text, with their places.
+/// The tokens of a text of fewer than 2^32 - 1 bytes, with their places. A scrap is a token, so a text fails only for
+/// want of memory.
 pub fn tokens(alloc: Global, text: &[u8]) -> Result<Lexed, NoMemory>
     requires { length text.now + 1 < 2 ^ 32 }
     ensures tokens { IfOk result (λ l. IsTokensOf text.now l.tokens.items l.places.items) }
     ensures ended { IfOk result (λ l. IsEnded l.tokens.items) }
+    ensures paired { IfOk result (λ l. length l.places.items ≡ length l.tokens.items) }
     ensures comments { IfOk result (λ l. HasComments text.now l.comments) }
 {
     let mut lexed = Lexed {

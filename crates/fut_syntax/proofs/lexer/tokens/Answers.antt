@@ -1,4 +1,4 @@
-use Rattle.std.proofs.Common.{◌≡◌, ℕ, List, refl, subst, arith, length, length-drop}
+use Rattle.std.proofs.Common.{ℕ, List, refl, subst, arith, length-drop}
 use Rattle.std.proofs.lemmas.List.{take_rest}
 use Rattle.fut_syntax.specs.Parts.{IsPart}
 use Rattle.fut_syntax.proofs.Begun.{begun_start, begun_on, begun_end, IsWhole}
@@ -35,3 +35,6 @@ returns-clause-ended c = (whole c).ends
 
 pub returns-clause-comments : goal.returns-clause-comments
 returns-clause-comments c = (whole c).told
+
+pub returns-clause-paired : goal.returns-clause-paired
+returns-clause-paired c = (whole c).paired
