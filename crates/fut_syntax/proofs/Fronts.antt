@@ -55,7 +55,7 @@ line_by : (t : Bool) → (if t then false else true) ≡ false → t ≡ true
 line_by true h = refl
 line_by false h = sym h
 
-ends_line : (rest : List ℕ) → Ends is_inline rest → EndsLine rest
+pub ends_line : (rest : List ℕ) → Ends is_inline rest → EndsLine rest
 ends_line [] h = tt
 ends_line (x ∷ rest) h = is_one x 10 (line_by (nat_eq x 10) h)
 

@@ -1,4 +1,5 @@
 pub mod Begun
+pub mod Every
 pub mod Fronts
 pub mod Longest
 pub mod Never

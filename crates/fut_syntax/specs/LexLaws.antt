@@ -10,6 +10,10 @@ use Rattle.fut_syntax.specs.Spelling.{Spaced, spaced, ended_tokens, AreReadable,
 abbrev pub OneCut : Type 0
 OneCut = (bytes : List ℕ) (ps qs : List Piece) → IsCut bytes ps → IsCut bytes qs → ps ≡ qs
 
+-- every text has tokens
+abbrev pub EveryText : Type 0
+EveryText = (bytes : List ℕ) → (xs : List Token) × (places : List Place) × IsTokensOf bytes xs places
+
 -- a text has one list of tokens, at one list of places
 abbrev pub OneTokenList : Type 0
 OneTokenList = (bytes : List ℕ) (xs ys : List Token) (ps qs : List Place) → IsTokensOf bytes xs ps → IsTokensOf bytes ys qs → (xs ≡ ys) × (ps ≡ qs)

@@ -1,9 +1,14 @@
 //! Laws of tokens.
-ghost use Rattle.fut_syntax.specs.LexLaws.{OneCut, OneTokenList, SpacedReads, RespacedReads};
+ghost use Rattle.fut_syntax.specs.LexLaws.{OneCut, EveryText, OneTokenList, SpacedReads, RespacedReads};
 
 /// A text is cut in one way.
 pub fn one_cut()
     ensures { OneCut }
+{}
+
+/// Every text has tokens.
+pub fn every_text()
+    ensures { EveryText }
 {}
 
 /// A text has one list of tokens, at one list of places.
