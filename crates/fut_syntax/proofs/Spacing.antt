@@ -1,5 +1,5 @@
 -- Tokens that are written with blanks between are cut into these tokens.
-use Rattle.std.proofs.Common.{◌≡◌, ℕ, Bool, true, false, List, [], ◌∷◌, ◌++◌, refl, sym, subst, ap, ◌∙◌, arith}
+use Rattle.std.proofs.Common.{append_assoc, ◌≡◌, ℕ, Bool, true, false, List, [], ◌∷◌, ◌++◌, refl, sym, subst, ap, ◌∙◌, arith}
 use Rattle.std.specs.Prelude.{Some, None, nat_eq, ◌&&◌, ◌||◌, if◌then◌else◌}
 use Rattle.std.proofs.lemmas.Bool.Decides.{nat_tests}
 use Rattle.fut_syntax.specs.declared.token.Token.{Token}
@@ -8,7 +8,7 @@ use Rattle.fut_syntax.specs.declared.token.Place.{Place}
 use Rattle.fut_syntax.specs.declared.kind.Mark.TheVariants.{Alone, Paired}
 use Rattle.fut_syntax.specs.Cut.{Class, Letter, Digit, Blank, Other, class_of, mark_of, is_blank, is_word, is_digit, word_token, number_token, token_by, token_of, IsLongest, starts_comment, Piece, Space, Comment, Lexeme, IsCut}
 use Rattle.fut_syntax.specs.Lexed.{tokens_of, places_of, IsTokensOf}
-use Rattle.fut_syntax.specs.Spelling.{spelling, Spaced, spaced, ended_tokens, IsReadable, AreReadable, AreBlank, is_scrap, has_scrap}
+use Rattle.fut_syntax.specs.Spelling.{spelling, Spaced, spaced, ended_tokens, IsReadable, AreReadable, AreBlank, is_scrap, has_scrap, line_of, lines_of, tokens_in_lines, HaveTokens}
 use Rattle.fut_syntax.proofs.Longest.{each_not}
 use Rattle.fut_syntax.proofs.Spelled.{readable}
 
@@ -123,3 +123,43 @@ pub respaced_reads : (bytes : List ℕ) (xs : List Token) (places : List Place) 
 respaced_reads bytes xs places f n ss e k =
     let h = are_readable f.pieces bytes ss f.cut (e ∙ f.are) (ap has_scrap (sym f.are) ∙ n) in
     subst (λ q. (again : List Place) × IsTokensOf (spaced ss) q again) e (spaced_reads ss h k)
+
+abbrev spaced_rest : Token → List Token → List Spaced → List Spaced
+spaced_rest x [] ss = record { token = x; blank = 10 } ∷ ss
+spaced_rest x (y ∷ ys) ss = record { token = x; blank = 32 } ∷ spaced_rest y ys ss
+
+abbrev spaced_lines : List (List Token) → List Spaced
+spaced_lines [] = []
+spaced_lines ([] ∷ lines) = spaced_lines lines
+spaced_lines ((x ∷ xs) ∷ lines) = spaced_rest x xs (spaced_lines lines)
+
+rest_is : (x : Token) (xs : List Token) (ss : List Spaced) (more : List ℕ) → spaced ss ≡ more → spaced (spaced_rest x xs ss) ≡ line_of (x ∷ xs) ++ more
+rest_is x [] ss more e = ap (λ q. spelling x ++ 10 ∷ q) e ∙ sym (append_assoc (spelling x) (10 ∷ []) more)
+rest_is x (y ∷ ys) ss more e = ap (λ q. spelling x ++ 32 ∷ q) (rest_is y ys ss more e) ∙ sym (append_assoc (spelling x) (32 ∷ line_of (y ∷ ys)) more)
+
+lines_are : (lines : List (List Token)) → HaveTokens lines → spaced (spaced_lines lines) ≡ lines_of lines
+lines_are [] h = refl
+lines_are ([] ∷ lines) h = absurd h
+lines_are ((x ∷ xs) ∷ lines) h = rest_is x xs (spaced_lines lines) (lines_of lines) (lines_are lines h)
+
+rest_tokens : (x : Token) (xs : List Token) (ss : List Spaced) (more : List Token) → ended_tokens ss ≡ more → ended_tokens (spaced_rest x xs ss) ≡ (x ∷ xs) ++ more
+rest_tokens x [] ss more e = ap (λ q. x ∷ q) e
+rest_tokens x (y ∷ ys) ss more e = ap (λ q. x ∷ q) (rest_tokens y ys ss more e)
+
+lines_tokens : (lines : List (List Token)) → ended_tokens (spaced_lines lines) ≡ tokens_in_lines lines
+lines_tokens [] = refl
+lines_tokens ([] ∷ lines) = lines_tokens lines
+lines_tokens ((x ∷ xs) ∷ lines) = rest_tokens x xs (spaced_lines lines) (tokens_in_lines lines) (lines_tokens lines)
+
+rest_blank : (x : Token) (xs : List Token) (ss : List Spaced) → AreBlank ss → AreBlank (spaced_rest x xs ss)
+rest_blank x [] ss h = (refl, h)
+rest_blank x (y ∷ ys) ss h = (refl, rest_blank y ys ss h)
+
+lines_blank : (lines : List (List Token)) → AreBlank (spaced_lines lines)
+lines_blank [] = tt
+lines_blank ([] ∷ lines) = lines_blank lines
+lines_blank ((x ∷ xs) ∷ lines) = rest_blank x xs (spaced_lines lines) (lines_blank lines)
+
+pub lines_read : (bytes : List ℕ) (xs : List Token) (places : List Place) → IsTokensOf bytes xs places → has_scrap xs ≡ false → (lines : List (List Token)) → tokens_in_lines lines ≡ xs → HaveTokens lines → (again : List Place) × IsTokensOf (lines_of lines) xs again
+lines_read bytes xs places f n lines e h =
+    subst (λ (q : List ℕ). (again : List Place) × IsTokensOf q xs again) (lines_are lines h) (respaced_reads bytes xs places f n (spaced_lines lines) (lines_tokens lines ∙ e) (lines_blank lines))

@@ -4,7 +4,7 @@ use Rattle.fut_syntax.specs.declared.token.Token.{Token}
 use Rattle.fut_syntax.specs.declared.token.Place.{Place}
 use Rattle.fut_syntax.specs.Cut.{Piece, IsCut}
 use Rattle.fut_syntax.specs.Lexed.{IsTokensOf}
-use Rattle.fut_syntax.specs.Spelling.{Spaced, spaced, ended_tokens, AreReadable, AreBlank, has_scrap}
+use Rattle.fut_syntax.specs.Spelling.{Spaced, spaced, ended_tokens, AreReadable, AreBlank, has_scrap, lines_of, tokens_in_lines, HaveTokens}
 
 -- a text is cut in one way
 abbrev pub OneCut : Type 0
@@ -26,3 +26,8 @@ SpacedReads = (ss : List Spaced) → AreReadable ss → AreBlank ss → (places 
 abbrev pub RespacedReads : Type 0
 RespacedReads = (bytes : List ℕ) (xs : List Token) (places : List Place) → IsTokensOf bytes xs places → has_scrap xs ≡ false
     → (ss : List Spaced) → ended_tokens ss ≡ xs → AreBlank ss → (again : List Place) × IsTokensOf (spaced ss) xs again
+
+-- the tokens of a text without scraps that are written again in lines are the tokens of these lines
+abbrev pub LinesRead : Type 0
+LinesRead = (bytes : List ℕ) (xs : List Token) (places : List Place) → IsTokensOf bytes xs places → has_scrap xs ≡ false
+    → (lines : List (List Token)) → tokens_in_lines lines ≡ xs → HaveTokens lines → (again : List Place) × IsTokensOf (lines_of lines) xs again

@@ -86,3 +86,29 @@ is_scrap _ = false
 abbrev pub has_scrap : List Token → Bool
 has_scrap [] = false
 has_scrap (x ∷ xs) = is_scrap x || has_scrap xs
+
+-- tokens, each with a space before it, and then a line feed
+abbrev pub rest_of_line : List Token → List ℕ
+rest_of_line [] = 10 ∷ []
+rest_of_line (x ∷ xs) = 32 ∷ spelling x ++ rest_of_line xs
+
+-- tokens with one space between two, and then a line feed
+abbrev pub line_of : List Token → List ℕ
+line_of [] = 10 ∷ []
+line_of (x ∷ xs) = spelling x ++ rest_of_line xs
+
+-- lines one after the other
+abbrev pub lines_of : List (List Token) → List ℕ
+lines_of [] = []
+lines_of (line ∷ lines) = line_of line ++ lines_of lines
+
+-- the tokens of lines, and then the end token
+abbrev pub tokens_in_lines : List (List Token) → List Token
+tokens_in_lines [] = t.End ∷ []
+tokens_in_lines (line ∷ lines) = line ++ tokens_in_lines lines
+
+-- each line has a token
+abbrev pub HaveTokens : List (List Token) → Type 0
+HaveTokens [] = Unit {0}
+HaveTokens ([] ∷ lines) = ⊥
+HaveTokens ((x ∷ xs) ∷ lines) = HaveTokens lines

@@ -1,5 +1,5 @@
 //! Laws of tokens.
-ghost use Rattle.fut_syntax.specs.LexLaws.{OneCut, EveryText, OneTokenList, SpacedReads, RespacedReads};
+ghost use Rattle.fut_syntax.specs.LexLaws.{OneCut, EveryText, OneTokenList, SpacedReads, RespacedReads, LinesRead};
 
 /// A text is cut in one way.
 pub fn one_cut()
@@ -24,4 +24,9 @@ pub fn spaced_reads()
 /// The tokens of a text, written again with blanks behind them, are read as these tokens.
 pub fn respaced_reads()
     ensures { RespacedReads }
+{}
+
+/// The tokens of a text, written again in lines, are read as these tokens.
+pub fn lines_read()
+    ensures { LinesRead }
 {}
