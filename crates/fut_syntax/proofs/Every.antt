@@ -1,12 +1,12 @@
 -- Every text has a cut.
-use Rattle.std.proofs.Common.{◌≡◌, ℕ, zero, suc, ◌<◌, ◌≤◌, Bool, true, false, List, [], ◌∷◌, ◌++◌, length, ◌⊎◌, inl, inr, refl, sym, ap, ◌∙◌, arith}
+use Rattle.std.proofs.Common.{◌≡◌, ℕ, zero, suc, ◌<◌, ◌≤◌, Bool, true, false, List, [], ◌∷◌, ◌++◌, length, refl, sym, ap, ◌∙◌, arith}
 use Rattle.std.specs.Prelude.{Option, Some, None, nat_eq, ◌&&◌, if◌then◌else◌}
 use Rattle.fut_syntax.specs.declared.token.Token.{Token}
 use Rattle.fut_syntax.specs.declared.token.Token.TheVariants as t
 use Rattle.fut_syntax.specs.declared.token.Place.{Place}
 use Rattle.fut_syntax.specs.declared.kind.Mark.{Mark}
 use Rattle.fut_syntax.specs.declared.kind.Mark.TheVariants.{Alone, Paired}
-use Rattle.fut_syntax.specs.Cut.{Class, Letter, Digit, Blank, Other, class_of, mark_of, each, is_blank, is_letter, is_digit, is_word, is_inline, word_token, number_token, token_by, token_of, IsLongest, starts_comment, Piece, Space, Comment, Lexeme, bytes_of, Fits, IsCut}
+use Rattle.fut_syntax.specs.Cut.{Letter, Digit, Blank, Other, class_of, mark_of, each, is_blank, is_letter, is_digit, is_word, is_inline, word_token, number_token, token_by, token_of, IsLongest, starts_comment, Piece, Space, Comment, Lexeme, bytes_of, Fits, IsCut}
 use Rattle.fut_syntax.specs.Lexed.{tokens_of, places_of, IsTokensOf}
 use Rattle.fut_syntax.specs.Runs.{Ends}
 use Rattle.fut_syntax.proofs.Fronts.{ends_line}

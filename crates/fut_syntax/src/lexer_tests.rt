@@ -1,6 +1,6 @@
 //! Tokens and places of short texts, worked out by hand.
 use crate::lexer::{Lexed, tokens};
-use crate::spelling::fixed_spelling;
+use crate::spelling::{fixed_spelling, push_line};
 use crate::token::Token;
 use std::alloc::{AllocError, Global};
 use std::test::Fail;
@@ -82,19 +82,14 @@ fn texts_by_hand(rt: HostRuntime) -> Result<(), Fail> {
 }
 
 #[test]
-fn spellings_by_hand(rt: HostRuntime) -> Result<(), Fail> {
+fn a_line_is_written_as_it_was_read(rt: HostRuntime) -> Result<(), Fail> {
     let text =
-        b"cells task int fut var if else while spawn sync create get return add ( ) [ ] { } , ; : = + - * / % & | ! == != < <= > >= ";
-    let lexed = tokens(rt.alloc(), text)?;
-    let mut out = String::new(rt.alloc());
-    for token in lexed.tokens.iter() {
-        if let Token::End = token {
-            continue;
-        }
-        out.push_str(name_of(rt.alloc(), token)?.as_str())?;
-        out.push_str(" ")?;
-    }
-    assert_eq!(rt; out.as_bytes(), text.as_slice());
-    assert_eq!(rt; lexed.tokens.len(), 39);
+        b"cells task int fut var if else while spawn sync create get return add a_1 0 907 ( ) [ ] { } , ; : = + - * / % & | ! == != < <= > >=\n";
+    let mut lexed = tokens(rt.alloc(), text)?;
+    assert_eq!(rt; lexed.tokens.len(), 42);
+    lexed.tokens.truncate(41);
+    let mut out = Vec::new(rt.alloc());
+    push_line(rt.alloc(), &mut out, lexed.tokens.as_slice())?;
+    assert_eq!(rt; out.as_slice(), text.as_slice());
     Ok(())
 }
