@@ -60,3 +60,17 @@ fn copy_of(alloc: Global, task: u32, strand: u32, act: &Act) -> Result<Entry, No
     };
     Ok(Entry { task, strand, act })
 }
+
+/// The task of the greatest number that has not ended.
+fn last_running(lines: &[Line]) -> Option<usize>
+    ensures { MatchOption result (HaveEnded lines.now) (λ t. IsLastRunning lines.now t) }
+{
+    let mut left = lines.len();
+    while left > 0 {
+        left -= 1;
+        if !lines[left].task.ended() {
+            return Some(left);
+        }
+    }
+    None
+}

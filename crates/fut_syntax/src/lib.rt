@@ -14,6 +14,7 @@ mod lexer;
 mod lexer_laws;
 #[cfg(test)]
 mod lexer_tests;
+mod program;
 pub mod parser;
 mod scan;
 mod signs;
@@ -27,4 +28,5 @@ pub use lexer::{Lexed, tokens};
 pub use lexer_laws::{
     every_text, lines_read, one_cut, one_token_list, respaced_reads, spaced_reads,
 };
+pub use program::{ParseFault, parse};
 pub use spelling::{fixed_spelling, push_line, push_token};

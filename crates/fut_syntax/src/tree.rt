@@ -101,9 +101,11 @@ pub enum Item {
     Task(Items<u8>, Items<Param>, u64, Items<Stmt>),
 }
 
-/// A program: its items, of which there is one at least, and the place of each of its tokens, the end token included.
+/// A program: its items, of which there is one at least, the place of each of its tokens, the end token included, and
+/// whether its text has a comment.
 #[derive(Drop)]
 pub struct Program {
     pub items: Items<Item>,
     pub places: Items<Place>,
+    pub comments: bool,
 }
