@@ -63,7 +63,8 @@ fn listed(alloc: Global, found: &BTreeMap<u32, Race>) -> Result<Races, NoMemory>
 
 /// The racing cells of a history in the order of their numbers, each with its first pair, found by following edges.
 ///
-/// The history may be any one, also one that no program makes. It has fewer than 2^32 entries.
+/// The history may be any one, also one that no program makes. It has fewer than 2^32 entries. `NoMemory` is want of
+/// memory alone. The time is about the number of accesses by that of entries.
 pub fn found_of(alloc: Global, history: &History) -> Result<Races, NoMemory>
     requires { length history.now.items < 2 ^ 32 }
     ensures { IfOk result (λ races. IsReport (events_of history.now) races.items) }
