@@ -4,3 +4,4 @@ pub mod Making
 pub mod Places
 pub mod Stepping
 pub mod Tasking
+pub mod Testing

@@ -202,7 +202,7 @@ fn cell_number(arrays: &[CellArray], word: &[u8], index: u64) -> Option<u32>
 }
 
 /// The number that an expression is, where it is one alone without a sign.
-fn literal(expr: &Expr) -> Option<u64>
+pub(crate) fn literal(expr: &Expr) -> Option<u64>
     ensures { result ≡ literal_of (expr_tree expr.now) }
 {
     match expr {

@@ -1,6 +1,6 @@
 //! Laws of the machine, and a run worked out by hand.
 ghost use Rattle.task_machine.specs.Laws.{ChildrenComeLater, LeadsByParts, LeadsFurther, LeadsToOne, PrefixIsLegal, StandsAtOne, StandsOrGoesOn, StepIsOne, StrandsRise, StrandsWereMade};
-ghost use Rattle.task_machine.specs.Rows.{NumberRow, SpawnRow};
+ghost use Rattle.task_machine.specs.Rows.{CodeRow, NumberRow, SpawnRow};
 
 pub fn step_is_one()
     ensures { StepIsOne }
@@ -48,4 +48,8 @@ pub fn spawn_row()
 
 pub fn number_row()
     ensures { NumberRow }
+{}
+
+pub fn code_row()
+    ensures { CodeRow }
 {}

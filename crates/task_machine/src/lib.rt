@@ -5,5 +5,6 @@
 pub mod code;
 pub mod instruction;
 pub mod laws;
+pub mod small;
 pub mod task;
 pub mod trace;
