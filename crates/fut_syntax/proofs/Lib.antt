@@ -2,7 +2,7 @@ pub mod Splits
 pub mod Viable
 pub mod Through
 pub mod Exact
-pub mod Once
+pub mod OneTree
 pub mod Whole
 pub mod Longer
 pub mod Cursors
@@ -11,3 +11,4 @@ pub mod Made
 pub mod Counted
 pub mod Wholes
 pub mod Tops
+pub mod Decided

@@ -1,6 +1,7 @@
 pub mod Trees
 pub mod Tokens
 pub mod Faults
+pub mod Ended
 pub mod Machine
 pub mod Phrases
 pub mod Views

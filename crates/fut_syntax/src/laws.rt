@@ -1,5 +1,5 @@
 //! Laws over the grammar and its fault places.
-ghost use Rattle.fut_syntax.specs.Laws.{Completions, StopIsFault, OneTree, OneFault, NoFault, ReadsAgain, SecondOperator};
+ghost use Rattle.fut_syntax.specs.Laws.{Completions, StopIsFault, OneTree, OneFault, NoFault, EitherOne, ReadsAgain, SecondOperator};
 
 /// What the grammar's machine goes through is the beginning of a program.
 pub fn completions()
@@ -24,6 +24,11 @@ pub fn one_fault()
 /// A list of tokens with a tree has no fault.
 pub fn no_fault()
     ensures { NoFault }
+{}
+
+/// Tokens with an end token have a tree or a fault.
+pub fn either_one()
+    ensures { EitherOne }
 {}
 
 /// What a tree spells is read as this tree.
