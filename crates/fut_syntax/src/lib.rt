@@ -7,6 +7,8 @@ mod inits;
 mod items;
 pub mod laws;
 pub mod parser;
+#[cfg(test)]
+mod parser_tests;
 mod signs;
 mod stmts;
 pub mod token;
