@@ -3,6 +3,7 @@ pub mod Chains
 pub mod Counted
 pub mod Cursors
 pub mod Cuts
+pub mod Decided
 pub mod Every
 pub mod Exact
 pub mod Fronts
@@ -11,7 +12,9 @@ pub mod Longest
 pub mod Made
 pub mod Never
 pub mod Once
+pub mod OneTree
 pub mod Places
+pub mod Programs
 pub mod Spacing
 pub mod Spelled
 pub mod Splits

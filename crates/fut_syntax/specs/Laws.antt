@@ -1,5 +1,5 @@
 -- Laws over the machine and the grammar.
-use Rattle.std.specs.Prelude.{◌≡◌, ℕ, List, [], ◌∷◌, Some, Result, Ok, Err}
+use Rattle.std.specs.Prelude.{◌≡◌, ℕ, ◌⊎◌, List, [], ◌∷◌, Some, Result, Ok, Err}
 use Rattle.fut_syntax.specs.declared.token.Token.{Token}
 use Rattle.fut_syntax.specs.declared.token.Token.TheVariants as t
 use Rattle.fut_syntax.specs.declared.tree.Item.{Item}
@@ -9,6 +9,7 @@ use Rattle.fut_syntax.specs.Trees.{Program}
 use Rattle.fut_syntax.specs.Tokens.{program_tokens}
 use Rattle.fut_syntax.specs.Views.{program_tree}
 use Rattle.fut_syntax.specs.Machine.{Symbol, First, walk, run64}
+use Rattle.fut_syntax.specs.Ended.{IsEnded}
 use Rattle.fut_syntax.specs.Faults.{IsBegun, IsFault, IsWhole}
 use Rattle.fut_syntax.specs.Answers.{IsAnswer}
 
@@ -31,6 +32,10 @@ OneFault = (xs : List Token) (left other : ℕ) → IsFault xs left → IsFault 
 -- a list of tokens with a tree has no fault
 abbrev pub NoFault : Type 0
 NoFault = (xs : List Token) (p : Program) (left : ℕ) → IsWhole xs p → IsFault xs left → ⊥
+
+-- tokens with an end token have a tree or a fault
+abbrev pub EitherOne : Type 0
+EitherOne = (xs : List Token) → IsEnded xs → ((p : Program) × IsWhole xs p) ⊎ ((left : ℕ) × IsFault xs left)
 
 -- this program was read, or there was no memory
 abbrev pub Gives : Program → Result (List Item) TokenFault → Type 0

@@ -13,6 +13,7 @@ pub mod Runs
 pub mod Small
 pub mod Spelling
 pub mod Steps
+pub mod TextLaws
 pub mod Texts
 pub mod Tokens
 pub mod Trees

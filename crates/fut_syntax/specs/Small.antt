@@ -1,6 +1,8 @@
 -- Small programs: tasks without parameters that spawn, sync, write numbers to one array, and return a number.
-use Rattle.std.specs.Prelude.{◌≡◌, ℕ, ◌<◌, ◌≤◌, ◌^◌, List, [], ◌∷◌, length, map, codes}
+use Rattle.std.specs.Prelude.{◌≡◌, ℕ, false, ◌<◌, ◌≤◌, ◌^◌, List, [], ◌∷◌, length, map, codes}
 use Rattle.fut_base.specs.Dag.{Among}
+use Rattle.fut_syntax.specs.Lexed.{HasComments}
+use Rattle.fut_syntax.specs.Texts.{IsProgram}
 use Rattle.fut_syntax.specs.Trees.{Expr, Alone, Pair, Operand, Signed, NoSign, Negative, Inverted, Literal, Name, Bracket, Stmt, Declare, Define, Assign, Store, SpawnOf, SyncAll, If', While', Return', Block, Done, Then, Item, CellsOf, TaskOf, Program}
 
 abbrev pub name_of : Item → List ℕ
@@ -97,3 +99,10 @@ pub record IsSmall (P : Program) : Type 0 where
   pub main : Among (codes "main") (task_names (items_of P))
   pub writes : EachStmtOf (WritesAmong (array_names (items_of P))) (items_of P)
   pub spawns : EachStmtOf (SpawnsAmong (task_names (items_of P))) (items_of P)
+
+-- a small text: a small program in at most 4,096 bytes, without comments
+pub record IsSmallText (bytes : List ℕ) (P : Program) : Type 0 where
+  pub short : length bytes ≤ 4096
+  pub program : IsProgram bytes P
+  pub plain : HasComments bytes false
+  pub small : IsSmall P

@@ -25,12 +25,6 @@ abbrev pub behind : List Token → List Token
 behind [] = []
 behind (x ∷ xs) = xs
 
--- the end token stands at the end and nowhere else
-abbrev pub IsEnded : List Token → Type 0
-IsEnded [] = ⊥
-IsEnded (t.End ∷ xs) = xs ≡ []
-IsEnded (_ ∷ xs) = IsEnded xs
-
 -- the run that stops at the first of these
 abbrev pub stopped_at : List Token → Option ℕ
 stopped_at [] = None

@@ -1,6 +1,7 @@
 //! The tokens that are left to be read.
 ghost use Rattle.std.specs.Prelude.{◌≡◌, ◌∷◌, [], true, false, length};
-ghost use Rattle.fut_syntax.specs.Steps.{behind, front, is_end, IsEnded};
+ghost use Rattle.fut_syntax.specs.Steps.{behind, front, is_end};
+ghost use Rattle.fut_syntax.specs.Ended.{IsEnded};
 
 use crate::token::Token;
 use std::alloc::{AllocError, AllocFailed};
@@ -45,7 +46,7 @@ pub struct Cursor {
 
 impl Model for Cursor {
     ghost use Rattle.std.specs.Prelude.{List, drop};
-    ghost use Rattle.fut_syntax.specs.Steps.{IsEnded};
+    ghost use Rattle.fut_syntax.specs.Ended.{IsEnded};
     ghost use Rattle.fut_syntax.specs.declared.token.Token.{Token};
 
     ghost Value = { List Token };

@@ -1,5 +1,6 @@
 //! Laws over the grammar and its fault places.
-ghost use Rattle.fut_syntax.specs.Laws.{Completions, StopIsFault, OneTree, OneFault, NoFault, ReadsAgain, SecondOperator};
+ghost use Rattle.fut_syntax.specs.Laws.{Completions, StopIsFault, OneTree, OneFault, NoFault, EitherOne, ReadsAgain, SecondOperator};
+ghost use Rattle.fut_syntax.specs.TextLaws.{OneProgram, NoFaultyProgram};
 
 /// What the grammar's machine goes through is the beginning of a program.
 pub fn completions()
@@ -26,6 +27,11 @@ pub fn no_fault()
     ensures { NoFault }
 {}
 
+/// Tokens with an end token have a tree or a fault.
+pub fn either_one()
+    ensures { EitherOne }
+{}
+
 /// What a tree spells is read as this tree.
 pub fn reads_again()
     ensures { ReadsAgain }
@@ -34,4 +40,14 @@ pub fn reads_again()
 /// The second operator of an expression is a fault.
 pub fn second_operator()
     ensures { SecondOperator }
+{}
+
+/// A text is one program at most.
+pub fn one_program()
+    ensures { OneProgram }
+{}
+
+/// A text with a fault place is no program.
+pub fn no_faulty_program()
+    ensures { NoFaultyProgram }
 {}

@@ -17,6 +17,8 @@ mod lexer_tests;
 mod program;
 pub mod parser;
 mod scan;
+#[cfg(test)]
+mod parser_tests;
 mod signs;
 mod spelling;
 mod stmts;

@@ -1,6 +1,6 @@
 //! The parser: from tokens to the items of a program.
 ghost use Rattle.std.specs.Prelude.{◌≡◌};
-ghost use Rattle.fut_syntax.specs.Steps.{IsEnded};
+ghost use Rattle.fut_syntax.specs.Ended.{IsEnded};
 ghost use Rattle.fut_syntax.specs.Answers.{IsAnswer};
 
 use crate::cursor::{Cursor, Stop};

@@ -7,7 +7,7 @@ use Rattle.fut_syntax.specs.declared.tree.Expr.{Expr}
 use Rattle.fut_syntax.specs.declared.tree.Param.{Param}
 use Rattle.fut_syntax.specs.Trees as tree
 use Rattle.fut_syntax.specs.Small.{IsSmall, AreTasks, LengthsFit, AreBare, AreDifferent, name_of, array_names, task_names, IsSmallStmt, WritesAmong, SpawnsAmong, EachStmt, EachStmtOf}
-use Rattle.task_machine.specs.Views.{args_tree, params_tree, items_tree, program_tree}
+use Rattle.fut_syntax.specs.Views.{args_tree, params_tree, items_tree, program_tree}
 use Rattle.task_machine.specs.Flat.{Fits}
 use Rattle.task_machine.proofs.Coding.{small_can_be_made}
 

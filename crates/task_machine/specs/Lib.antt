@@ -7,4 +7,3 @@ pub mod State
 pub mod Texts
 pub mod Values
 pub mod Variables
-pub mod Views

@@ -6,7 +6,7 @@ ghost use Rattle.fut_syntax.specs.Trees.{Alone, Signed, NoSign};
 ghost use Rattle.fut_syntax.specs.Small.{IsSmall, IsLiteral, EachStmt, EachStmtOf, AreBare};
 ghost use Rattle.fut_base.specs.declared.record.Value.TheVariants.{Int};
 ghost use Rattle.task_machine.specs.Variables.{value_in, number_in};
-ghost use Rattle.task_machine.specs.Views.{expr_tree, primary_tree, stmt_tree, block_tree, items_tree, program_tree};
+ghost use Rattle.fut_syntax.specs.Views.{expr_tree, primary_tree, stmt_tree, block_tree, items_tree, program_tree};
 ghost use Rattle.task_machine.specs.Texts.{CellArray as Cells, arrays_from, count_cells, tasks_from, number_from, find_cell, stmts_of};
 ghost use Rattle.task_machine.specs.Flat.{Does, DoAll, AreCodesOf, IsCodeOf, Fits, ArraysFit, literal_of, IsCellOf, instructions_of, instruction_at, next_place};
 

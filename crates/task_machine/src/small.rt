@@ -2,7 +2,7 @@
 ghost use Rattle.std.specs.Prelude.{◌≡◌, ◌↔◌, ◌≤◌, [], length, map, IsTrue, IsSomeAnd};
 ghost use Rattle.fut_base.specs.Dag.{Among};
 ghost use Rattle.fut_syntax.specs.Small.{IsSmall, IsLiteral, AreTasks, LengthsFit, AreBare, AreDifferent, EachStmt, EachStmtOf, array_names, task_names, name_of};
-ghost use Rattle.task_machine.specs.Views.{expr_tree, item_tree, stmt_tree, block_tree, items_tree, params_tree, program_tree};
+ghost use Rattle.fut_syntax.specs.Views.{expr_tree, item_tree, stmt_tree, block_tree, items_tree, params_tree, program_tree};
 ghost use Rattle.task_machine.specs.Flat.{Fits};
 
 use crate::code::literal;

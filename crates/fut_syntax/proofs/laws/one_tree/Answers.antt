@@ -1,4 +1,4 @@
-use Rattle.fut_syntax.proofs.Once.{program_once}
+use Rattle.fut_syntax.proofs.OneTree.{program_once}
 use Rattle.fut_syntax.proofs.laws.one_tree.Goals as goal
 
 pub returns : goal.returns

@@ -10,7 +10,7 @@ use Rattle.fut_syntax.specs.Faults.{IsWhole}
 use Rattle.fut_syntax.specs.Answers.{IsAnswer}
 use Rattle.fut_syntax.specs.Laws.{Gives}
 use Rattle.fut_syntax.proofs.Whole.{no_fault}
-use Rattle.fut_syntax.proofs.Once.{program_once}
+use Rattle.fut_syntax.proofs.OneTree.{program_once}
 use Rattle.fut_syntax.proofs.laws.reads_again.Goals as goal
 
 again : (p : Program) (r : Result (List Item) TokenFault) → IsWhole (program_tokens p) p → IsAnswer (program_tokens p) r → Gives p r

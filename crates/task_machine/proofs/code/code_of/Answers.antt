@@ -1,4 +1,4 @@
-use Rattle.task_machine.specs.Views.{items_tree}
+use Rattle.fut_syntax.specs.Views.{items_tree}
 use Rattle.task_machine.proofs.Coding.{all_done}
 use Rattle.task_machine.proofs.code.code_of.Goals as goal
 

@@ -1,7 +1,7 @@
 use Rattle.std.proofs.Common.{List, ◌++◌, drop}
 use Rattle.fut_syntax.specs.Small.{EachStmt}
 use Rattle.task_machine.specs.declared.instruction.Instruction.{Instruction}
-use Rattle.task_machine.specs.Views.{items_tree, block_tree}
+use Rattle.fut_syntax.specs.Views.{items_tree, block_tree}
 use Rattle.task_machine.specs.Texts.{stmts_of}
 use Rattle.task_machine.specs.Flat.{DoAll, Fits}
 use Rattle.task_machine.proofs.code.code_of.Given as goal

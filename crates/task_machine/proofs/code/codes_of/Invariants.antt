@@ -1,7 +1,7 @@
 use Rattle.std.proofs.Common.{List, ◌++◌, drop}
 use Rattle.fut_syntax.specs.Small.{AreBare, EachStmtOf}
 use Rattle.task_machine.specs.declared.instruction.Instruction.{Instruction}
-use Rattle.task_machine.specs.Views.{items_tree}
+use Rattle.fut_syntax.specs.Views.{items_tree}
 use Rattle.task_machine.specs.Texts.{tasks_from}
 use Rattle.task_machine.specs.Flat.{AreCodesOf, Fits}
 use Rattle.task_machine.proofs.code.codes_of.Given as goal

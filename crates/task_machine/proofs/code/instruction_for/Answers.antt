@@ -1,5 +1,5 @@
 use Rattle.std.specs.Prelude.{pos}
-use Rattle.task_machine.specs.Views.{items_tree}
+use Rattle.fut_syntax.specs.Views.{items_tree}
 use Rattle.task_machine.proofs.Coding.{cell_is_there, task_is_there}
 use Rattle.task_machine.proofs.code.instruction_for.Goals as goal
 

@@ -3,7 +3,7 @@ use Rattle.std.specs.Prelude.{None}
 use Rattle.fut_syntax.specs.declared.tree.Expr.{Expr}
 use Rattle.fut_syntax.specs.declared.tree.Primary.{Primary, Number, Word, Bracket, Bracket', more_of-Expr}
 use Rattle.fut_syntax.specs.Trees as tree
-use Rattle.task_machine.specs.Views.{primary_tree}
+use Rattle.fut_syntax.specs.Views.{primary_tree}
 use Rattle.task_machine.specs.Flat.{literal_of}
 use Rattle.task_machine.proofs.code.unsigned.Goals as goal
 

@@ -1,6 +1,6 @@
 use Rattle.std.proofs.Common.{◌↔◌, drop}
 use Rattle.fut_syntax.specs.Small.{AreBare}
-use Rattle.task_machine.specs.Views.{items_tree}
+use Rattle.fut_syntax.specs.Views.{items_tree}
 use Rattle.task_machine.proofs.small.are_bare.Given as goal
 
 abbrev pub invariant-loop-item : goal.invariant-loop-item

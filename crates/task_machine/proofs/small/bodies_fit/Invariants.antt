@@ -1,7 +1,7 @@
 use Rattle.std.proofs.Common.{◌↔◌, drop}
 use Rattle.fut_syntax.specs.Small.{EachStmtOf}
 use Rattle.task_machine.specs.Flat.{Fits}
-use Rattle.task_machine.specs.Views.{items_tree}
+use Rattle.fut_syntax.specs.Views.{items_tree}
 use Rattle.task_machine.proofs.small.bodies_fit.Given as goal
 
 abbrev pub invariant-loop-item : goal.invariant-loop-item

@@ -1,7 +1,7 @@
 use Rattle.std.proofs.Common.{◌↔◌, drop}
 use Rattle.fut_syntax.specs.Small.{EachStmt}
 use Rattle.task_machine.specs.Flat.{Fits}
-use Rattle.task_machine.specs.Views.{items_tree, block_tree}
+use Rattle.fut_syntax.specs.Views.{items_tree, block_tree}
 use Rattle.task_machine.proofs.small.body_fits.Given as goal
 
 abbrev pub invariant-loop-stmt : goal.invariant-loop-stmt

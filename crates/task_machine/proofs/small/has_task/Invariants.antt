@@ -1,7 +1,7 @@
 use Rattle.std.proofs.Common.{◌↔◌, drop}
 use Rattle.fut_base.specs.Dag.{Among}
 use Rattle.fut_syntax.specs.Small.{task_names}
-use Rattle.task_machine.specs.Views.{items_tree}
+use Rattle.fut_syntax.specs.Views.{items_tree}
 use Rattle.task_machine.proofs.small.has_task.Given as goal
 
 abbrev pub invariant-loop-item : goal.invariant-loop-item

@@ -1,7 +1,7 @@
 use Rattle.std.proofs.Common.{◌↔◌, drop, map}
 use Rattle.fut_base.specs.Dag.{Among}
 use Rattle.fut_syntax.specs.Small.{name_of}
-use Rattle.task_machine.specs.Views.{items_tree}
+use Rattle.fut_syntax.specs.Views.{items_tree}
 use Rattle.task_machine.proofs.small.is_named.Given as goal
 
 abbrev pub invariant-loop-item : goal.invariant-loop-item

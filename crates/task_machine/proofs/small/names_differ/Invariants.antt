@@ -1,6 +1,6 @@
 use Rattle.std.proofs.Common.{◌↔◌, map, length}
 use Rattle.fut_syntax.specs.Small.{AreDifferent, name_of}
-use Rattle.task_machine.specs.Views.{items_tree}
+use Rattle.fut_syntax.specs.Views.{items_tree}
 use Rattle.task_machine.proofs.small.names_differ.Given as goal
 
 abbrev pub invariant-loop-rest : goal.invariant-loop-rest

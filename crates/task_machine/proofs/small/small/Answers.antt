@@ -3,7 +3,7 @@ use Rattle.std.proofs.lemmas.List.{take_all, length-drop}
 use Rattle.std.specs.Prelude.{IsSomeAnd}
 use Rattle.fut_syntax.specs.declared.tree.Item.{Item}
 use Rattle.fut_syntax.specs.Small.{IsSmall, AreTasks}
-use Rattle.task_machine.specs.Views.{items_tree, program_tree}
+use Rattle.fut_syntax.specs.Views.{items_tree, program_tree}
 use Rattle.task_machine.proofs.Testing.{Parts, parts_of, small_of}
 use Rattle.task_machine.proofs.small.small.Goals as goal
 

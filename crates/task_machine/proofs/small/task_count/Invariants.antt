@@ -1,6 +1,6 @@
 use Rattle.std.proofs.Common.{◌≡◌, ◌≤◌, ◌+◌, length, drop}
 use Rattle.fut_syntax.specs.Small.{task_names}
-use Rattle.task_machine.specs.Views.{items_tree}
+use Rattle.fut_syntax.specs.Views.{items_tree}
 use Rattle.task_machine.proofs.small.task_count.Given as goal
 
 abbrev pub invariant-loop-item : goal.invariant-loop-item

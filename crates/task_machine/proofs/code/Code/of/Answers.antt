@@ -2,7 +2,7 @@ use Rattle.std.proofs.Common.{◌≡◌, ◌≤◌, length, List, subst, sym, �
 use Rattle.task_machine.specs.Flat.{ArraysFit}
 use Rattle.fut_syntax.specs.declared.tree.Item.{Item}
 use Rattle.task_machine.specs.Texts.{CellArray, arrays_from}
-use Rattle.task_machine.specs.Views.{items_tree}
+use Rattle.fut_syntax.specs.Views.{items_tree}
 use Rattle.task_machine.proofs.Coding.{CanBeMade, small_can_be_made}
 use Rattle.task_machine.proofs.code.Code.of.Goals as goal
 
