@@ -11,7 +11,6 @@ pub mod Longer
 pub mod Longest
 pub mod Made
 pub mod Never
-pub mod Once
 pub mod OneTree
 pub mod Places
 pub mod Programs

@@ -6,7 +6,7 @@ use Rattle.fut_syntax.specs.Trees.{Program}
 use Rattle.fut_syntax.specs.Faults.{IsFault}
 use Rattle.fut_syntax.specs.Texts.{IsProgram, IsFaultPlace}
 use Rattle.fut_syntax.proofs.Cuts.{tokens_once}
-use Rattle.fut_syntax.proofs.Once.{program_once}
+use Rattle.fut_syntax.proofs.OneTree.{program_once}
 use Rattle.fut_syntax.proofs.Whole.{no_fault}
 
 pub one_program : (bytes : List ℕ) (P Q : Program) → IsProgram bytes P → IsProgram bytes Q → P ≡ Q
