@@ -7,5 +7,6 @@ pub mod Once
 pub mod Places
 pub mod Spacing
 pub mod Spelled
+pub mod Tables
 pub mod Tests
 pub mod Values
