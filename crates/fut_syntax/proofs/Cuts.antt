@@ -1,11 +1,12 @@
 -- A text is cut in one way.
 use Rattle.std.proofs.Common.{◌≡◌, ℕ, true, false, List, [], ◌∷◌, ◌++◌, ◌⊎◌, inl, inr, refl, sym, subst, ap, ◌∙◌}
 use Rattle.std.specs.Prelude.{Some, None, ◌&&◌}
+use Rattle.std.proofs.lemmas.Bool.{and_parts}
 use Rattle.fut_syntax.specs.declared.token.Token.{Token}
 use Rattle.fut_syntax.specs.Cut.{token_of, token_by, IsLongest, Blank, class_of, is_blank, is_inline, each, EndsLine, starts_comment, Piece, Space, Comment, Lexeme, bytes_of, Fits, IsCut}
 use Rattle.fut_syntax.specs.declared.token.Place.{Place}
 use Rattle.fut_syntax.specs.Lexed.{tokens_of, places_of, IsTokensOf}
-use Rattle.fut_syntax.proofs.Tests.{and_right, blank_class}
+use Rattle.fut_syntax.proofs.Tests.{blank_class}
 
 -- the first of two fronts of a list is shorter
 abbrev Shorter : (a b r s : List ℕ) → Type 0
@@ -56,7 +57,7 @@ comment_once (x ∷ c) [] r s hc hd hr hs e =
     let line : x ≡ 10 = subst EndsLine (sym e) hs in
     let t : false ≡ true = sym (ap (λ (q : ℕ). is_inline q && each is_inline c) line) ∙ hc in absurd (cc)
 comment_once (x ∷ c) (y ∷ d) r s hc hd hr hs e =
-    let h = comment_once c d r s (and_right (is_inline x) (each is_inline c) hc) (and_right (is_inline y) (each is_inline d) hd) hr hs (cc) in (cc, h.1)
+    let h = comment_once c d r s ((and_parts (is_inline x) (each is_inline c) hc).1) ((and_parts (is_inline y) (each is_inline d) hd).1) hr hs (cc) in (cc, h.1)
 
 piece_once : (p q : Piece) (r s : List ℕ) → Fits p r → Fits q s → bytes_of p ++ r ≡ bytes_of q ++ s → (p ≡ q) × (r ≡ s)
 piece_once (Space b) (Space d) r s f g e = (cc, cc)

@@ -1,6 +1,7 @@
 -- Every text has a cut.
 use Rattle.std.proofs.Common.{◌≡◌, ℕ, zero, suc, ◌<◌, ◌≤◌, Bool, true, false, List, [], ◌∷◌, ◌++◌, length, refl, sym, ap, ◌∙◌, arith}
 use Rattle.std.specs.Prelude.{Option, Some, None, nat_eq, ◌&&◌, if◌then◌else◌}
+use Rattle.std.proofs.lemmas.Bool.{and_parts, eqb-true}
 use Rattle.fut_syntax.specs.declared.token.Token.{Token}
 use Rattle.fut_syntax.specs.declared.token.Token.TheVariants as t
 use Rattle.fut_syntax.specs.declared.token.Place.{Place}
@@ -11,7 +12,7 @@ use Rattle.fut_syntax.specs.Lexed.{tokens_of, places_of, IsTokensOf}
 use Rattle.fut_syntax.specs.Runs.{Ends}
 use Rattle.fut_syntax.proofs.Fronts.{ends_line}
 use Rattle.fut_syntax.proofs.Longest.{word_longest, number_longest}
-use Rattle.fut_syntax.proofs.Tests.{and_left, and_right, is_one, class_letter, class_digit}
+use Rattle.fut_syntax.proofs.Tests.{class_letter, class_digit}
 
 -- the bytes of a class at the front, and those behind
 abbrev run_of : (ℕ → Bool) → List ℕ → List ℕ
@@ -152,8 +153,8 @@ lexeme_at b bs h k = record {
 comment_at : (b : ℕ) (bs : List ℕ) → starts_comment (b ∷ bs) ≡ true → HasFront (b ∷ bs)
 comment_at b [] h = absurd (cc)
 comment_at b (c ∷ bs) h =
-    let eb : b ≡ 47 = is_one b 47 (and_left (nat_eq b 47) (nat_eq c 47) h) in
-    let ec : c ≡ 47 = is_one c 47 (and_right (nat_eq b 47) (nat_eq c 47) h) in
+    let eb : b ≡ 47 = eqb-true b 47 ((and_parts (nat_eq b 47) (nat_eq c 47) h).0) in
+    let ec : c ≡ 47 = eqb-true c 47 ((and_parts (nat_eq b 47) (nat_eq c 47) h).1) in
     let e = parts is_inline bs in
     record {
       piece = Comment (run_of is_inline bs);

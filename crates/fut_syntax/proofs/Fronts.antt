@@ -2,13 +2,14 @@
 use Rattle.std.proofs.Common.{◌≡◌, ℕ, zero, suc, ◌<◌, Bool, true, false, List, [], ◌∷◌, length, take, drop, get_or, refl, sym, ap, ◌∙◌, arith}
 use Rattle.std.specs.Prelude.{Some, None, if◌then◌else◌, nat_eq}
 use Rattle.std.proofs.lemmas.List.{take-append-drop}
+use Rattle.std.proofs.lemmas.Bool.{and_parts, eqb-true}
 use Rattle.fut_syntax.specs.declared.token.Token.{Token}
 use Rattle.fut_syntax.specs.declared.lexer.Part.TheVariants as part
 use Rattle.fut_syntax.specs.Cut.{each, is_letter, is_digit, is_word, is_blank, is_inline, word_token, number_token, token_by, EndsLine, Space, Comment, Lexeme, starts_comment}
 use Rattle.fut_syntax.specs.Parts.{IsLexeme, IsPart}
 use Rattle.fut_syntax.specs.Runs.{Ends, IsRun}
 use Rattle.fut_syntax.proofs.Longest.{number_longest, word_longest}
-use Rattle.fut_syntax.proofs.Tests.{and_left, and_right, is_one, class_letter, class_digit, letter_word}
+use Rattle.fut_syntax.proofs.Tests.{class_letter, class_digit, letter_word}
 
 pub word_front : (text : List ℕ) (n : ℕ) (x : Token) → 0 < length text → is_letter (get_or text 0 0) ≡ true → IsRun is_word text n → x ≡ word_token (take n text) → IsLexeme text x n
 word_front [] n x some c run e = absurd (omega arith)
@@ -16,7 +17,7 @@ word_front (b ∷ bs) zero x some c run e = let none : is_word b ≡ false = run
 word_front (b ∷ bs) (suc n) x some c run e = record {
   within = run.0;
   some = omega arith;
-  is = ap (λ q. token_by q b (take n bs)) (class_letter b c) ∙ ap (λ q. if q then Some (word_token (b ∷ take n bs)) else None) (and_right (is_word b) (each is_word (take n bs)) run.1) ∙ ap Some (sym e);
+  is = ap (λ q. token_by q b (take n bs)) (class_letter b c) ∙ ap (λ q. if q then Some (word_token (b ∷ take n bs)) else None) ((and_parts (is_word b) (each is_word (take n bs)) run.1).1) ∙ ap Some (sym e);
   longest = word_longest b (take n bs) (drop n bs) (class_letter b c) run.2;
 }
 
@@ -26,7 +27,7 @@ number_front (b ∷ bs) zero x some c run e = let none : is_digit b ≡ false = 
 number_front (b ∷ bs) (suc n) x some c run e = record {
   within = run.0;
   some = omega arith;
-  is = ap (λ q. token_by q b (take n bs)) (class_digit b c) ∙ ap (λ q. if q then Some (number_token (b ∷ take n bs)) else None) (and_right (is_digit b) (each is_digit (take n bs)) run.1) ∙ ap Some (sym e);
+  is = ap (λ q. token_by q b (take n bs)) (class_digit b c) ∙ ap (λ q. if q then Some (number_token (b ∷ take n bs)) else None) ((and_parts (is_digit b) (each is_digit (take n bs)) run.1).1) ∙ ap Some (sym e);
   longest = number_longest b (take n bs) (drop n bs) (class_digit b c) run.2;
 }
 
@@ -57,14 +58,14 @@ line_by false h = sym h
 
 pub ends_line : (rest : List ℕ) → Ends is_inline rest → EndsLine rest
 ends_line [] h = tt
-ends_line (x ∷ rest) h = is_one x 10 (line_by (nat_eq x 10) h)
+ends_line (x ∷ rest) h = eqb-true x 10 (line_by (nat_eq x 10) h)
 
 pub comment_front : (text : List ℕ) (n : ℕ) → starts_comment text ≡ true → IsRun is_inline (drop 2 text) n → IsPart text part.Comment (suc (suc n))
 comment_front [] n h run = absurd (cc)
 comment_front (a ∷ []) n h run = absurd (cc)
 comment_front (a ∷ b ∷ bs) n h run =
-    let ea : a ≡ 47 = is_one a 47 (and_left (nat_eq a 47) (nat_eq b 47) h) in
-    let eb : b ≡ 47 = is_one b 47 (and_right (nat_eq a 47) (nat_eq b 47) h) in
+    let ea : a ≡ 47 = eqb-true a 47 ((and_parts (nat_eq a 47) (nat_eq b 47) h).0) in
+    let eb : b ≡ 47 = eqb-true b 47 ((and_parts (nat_eq a 47) (nat_eq b 47) h).1) in
     record {
       within = omega (arith, run.0);
       some = omega arith;

@@ -17,6 +17,7 @@ pub mod Programs
 pub mod Spacing
 pub mod Spelled
 pub mod Splits
+pub mod Tables
 pub mod Tests
 pub mod Through
 pub mod Tops

@@ -1,16 +1,13 @@
 -- A run of one class that nothing of the class follows is the longest token at its place.
-use Rattle.std.proofs.Common.{◌≡◌, ℕ, Bool, true, false, List, [], ◌∷◌, ◌++◌, refl, subst, ap, ◌∙◌}
+use Rattle.std.proofs.Common.{◌≡◌, ℕ, Bool, false, List, [], ◌∷◌, ◌++◌, refl, subst, ap, ◌∙◌}
 use Rattle.std.specs.Prelude.{Some, None, ◌&&◌, if◌then◌else◌}
+use Rattle.std.proofs.lemmas.Bool.{and_right}
 use Rattle.fut_syntax.specs.Cut.{Letter, Digit, class_of, each, is_word, is_digit, word_token, number_token, token_by, IsLongest}
 use Rattle.fut_syntax.specs.Runs.{Ends}
 
 pub each_not : (p : ℕ → Bool) (bs more : List ℕ) (x : ℕ) → p x ≡ false → each p (bs ++ x ∷ more) ≡ false
 each_not p [] more x e = ap (λ b. b && each p more) e
-each_not p (b ∷ bs) more x e = ap (λ q. p b && q) (each_not p bs more x e) ∙ and_false (p b)
-  where
-    and_false : (b : Bool) → (b && false) ≡ false
-    and_false true = refl
-    and_false false = refl
+each_not p (b ∷ bs) more x e = ap (λ q. p b && q) (each_not p bs more x e) ∙ and_right (p b) false refl
 
 ends_first : (p : ℕ → Bool) (rest more after : List ℕ) (x : ℕ) → Ends p rest → rest ≡ (x ∷ more) ++ after → p x ≡ false
 ends_first p [] more after x h e = absurd (cc)

@@ -2,14 +2,15 @@
 use Rattle.std.proofs.Common.{◌≡◌, ℕ, Bool, true, false, List, [], ◌∷◌, length, refl, sym, ap, ◌∙◌}
 use Rattle.std.specs.Prelude.{Option, Some, None, nat_eq, nat_le, ◌&&◌, if◌then◌else◌}
 use Rattle.std.specs.Str.{bytes_eq}
+use Rattle.std.proofs.lemmas.Bool.{and_parts}
 use Rattle.fut_syntax.specs.declared.token.Token.{Token}
 use Rattle.fut_syntax.specs.declared.token.Token.TheVariants as t
 use Rattle.fut_syntax.specs.declared.kind.Mark.{Mark}
 use Rattle.fut_syntax.specs.declared.kind.Mark.TheVariants.{Alone, Paired}
-use Rattle.fut_syntax.specs.Cut.{look_up, keywords, symbols, keyword_of, mark_of, each, is_letter, is_blank, is_word, is_digit, word_or, word_token, has_leading_zero, in_range, value_from, number_token, Letter, Digit, Blank, Other, token_by, token_of, Piece, Space, Comment, Lexeme, IsCut}
+use Rattle.fut_syntax.specs.Cut.{keywords, symbols, keyword_of, mark_of, each, is_letter, is_blank, is_word, is_digit, word_or, word_token, has_leading_zero, in_range, value_from, number_token, Letter, Digit, Blank, Other, token_by, token_of, Piece, Space, Comment, Lexeme, IsCut}
 use Rattle.fut_syntax.specs.Ended.{IsEnded}
 use Rattle.fut_syntax.specs.Lexed.{tokens_of}
-use Rattle.fut_syntax.proofs.Tests.{and_left, and_right}
+use Rattle.fut_syntax.proofs.Tables.{found}
 
 -- what a token is not
 abbrev pub is_other : Token → Bool
@@ -25,27 +26,13 @@ abbrev pub each_other : Option Token → Bool
 each_other (Some x) = is_other x
 each_other None = true
 
-abbrev pub every : {K A : Type 0} → (A → Bool) → List (K × A) → Bool
-every good [] = true
-every good (entry ∷ table) = good entry.1 && every good table
-
-found_by : {A : Type 0} (good : A → Bool) (b : Bool) (y x : A) (o : Option A) → good y ≡ true → (o ≡ Some x → good x ≡ true) → (if b then Some y else o) ≡ Some x → good x ≡ true
-found_by good true y x o g h e = let same : y ≡ x = cc in ap good (sym same) ∙ g
-found_by good false y x o g h e = h e
-
--- what a table has passes a test that each of its entries does
-pub found : {K A : Type 0} (good : A → Bool) (test : K → Bool) (table : List (K × A)) (x : A) → every good table ≡ true → look_up test table ≡ Some x → good x ≡ true
-found good test [] x g e = absurd (cc)
-found good test (entry ∷ table) x g e =
-    found_by good (test entry.0) entry.1 x (look_up test table) (and_left (good entry.1) (every good table) g) (λ h. found good test table x (and_right (good entry.1) (every good table) g) h) e
-
 keyword_other : (w : List ℕ) (x : Token) → keyword_of w ≡ Some x → is_other x ≡ true
 unfolding keyword_of
-keyword_other w x e = found is_other (bytes_eq w) keywords x refl e
+keyword_other w x e = (found (λ k y. is_other y) (bytes_eq w) keywords x refl e).2
 
 mark_other : (b : ℕ) (x : Mark) → mark_of b ≡ Some x → are_other x ≡ true
 unfolding mark_of
-mark_other b x e = found are_other (nat_eq b) symbols x refl e
+mark_other b x e = (found (λ k y. are_other y) (nat_eq b) symbols x refl e).2
 
 plain_other : (b : Bool) (w : List ℕ) → is_other (if b then t.Word w else t.Scrap) ≡ true
 plain_other true w = refl
@@ -72,8 +59,8 @@ by_mark b [] None e = refl
 by_mark b (c ∷ bs) None e = refl
 by_mark b [] (Some (Alone x)) e = mark_other b (Alone x) e
 by_mark b (c ∷ bs) (Some (Alone x)) e = refl
-by_mark b [] (Some (Paired x y)) e = and_left (is_other x) (is_other y) (mark_other b (Paired x y) e)
-by_mark b (c ∷ []) (Some (Paired x y)) e = if_other (nat_eq c 61) y (and_right (is_other x) (is_other y) (mark_other b (Paired x y) e))
+by_mark b [] (Some (Paired x y)) e = (and_parts (is_other x) (is_other y) (mark_other b (Paired x y) e)).0
+by_mark b (c ∷ []) (Some (Paired x y)) e = if_other (nat_eq c 61) y ((and_parts (is_other x) (is_other y) (mark_other b (Paired x y) e)).1)
 by_mark b (c ∷ d ∷ bs) (Some (Paired x y)) e = refl
 
 by_class : (l d k : Bool) (b : ℕ) (bs : List ℕ) → each_other (token_by (if l then Letter else (if d then Digit else (if k then Blank else Other (mark_of b)))) b bs) ≡ true

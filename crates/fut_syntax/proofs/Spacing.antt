@@ -1,7 +1,8 @@
 -- Tokens that are written with blanks between are cut into these tokens.
 use Rattle.std.proofs.Common.{append_assoc, ◌≡◌, ℕ, Bool, true, false, List, [], ◌∷◌, ◌++◌, refl, sym, subst, ap, ◌∙◌, arith}
-use Rattle.std.specs.Prelude.{Some, None, nat_eq, ◌&&◌, ◌||◌, if◌then◌else◌}
+use Rattle.std.specs.Prelude.{Some, None, nat_eq, ◌&&◌, if◌then◌else◌}
 use Rattle.std.proofs.lemmas.Bool.Decides.{nat_tests}
+use Rattle.std.proofs.lemmas.Bool.{and_right, or_parts}
 use Rattle.fut_syntax.specs.declared.token.Token.{Token}
 use Rattle.fut_syntax.specs.declared.token.Token.TheVariants as t
 use Rattle.fut_syntax.specs.declared.token.Place.{Place}
@@ -46,10 +47,6 @@ blank_longest b x bs rest h y more after e =
     let same : x ≡ y = cc in
     ap (λ (q : ℕ). token_of ((b ∷ bs) ++ q ∷ more)) (sym same) ∙ by_class (class_of b) b x bs more (blank_plain x h)
 
-and_false : (a b : Bool) → b ≡ false → (a && b) ≡ false
-and_false true b h = h
-and_false false b h = refl
-
 stroke_more : (c : ℕ) (bs : List ℕ) → token_of (47 ∷ c ∷ bs) ≡ None
 unfolding mark_of
 stroke_more c bs = refl
@@ -64,7 +61,7 @@ stroke_alone b c bs x true e h =
 -- no comment begins at a token with a blank behind it
 no_comment : (bs rest : List ℕ) (x : Token) (s : ℕ) → token_of bs ≡ Some x → is_blank s ≡ true → starts_comment (bs ++ s ∷ rest) ≡ false
 no_comment [] rest x s h k = absurd (cc)
-no_comment (b ∷ []) rest x s h k = and_false (nat_eq b 47) (nat_eq s 47) (blank_plain s k).stroke
+no_comment (b ∷ []) rest x s h k = and_right (nat_eq b 47) (nat_eq s 47) (blank_plain s k).stroke
 no_comment (b ∷ c ∷ bs) rest x s h k = stroke_alone b c bs x (nat_eq b 47) refl h
 
 longest : (bs rest : List ℕ) (x : Token) (s : ℕ) → token_of bs ≡ Some x → is_blank s ≡ true → IsLongest bs (s ∷ rest)
@@ -103,10 +100,6 @@ some_tokens (Lexeme bs x ∷ ps) e = absurd (cc)
 
 no_scrap : (x : Token) → is_scrap x ≡ false → x ≡ t.Scrap → ⊥
 no_scrap x h e = let t : true ≡ false = ap is_scrap (sym e) ∙ h in absurd (cc)
-
-or_parts : (a b : Bool) → (a || b) ≡ false → (a ≡ false) × (b ≡ false)
-or_parts true b h = absurd (cc)
-or_parts false b h = (refl, h)
 
 -- the tokens of a cut are readable
 are_readable : (ps : List Piece) (bytes : List ℕ) (ss : List Spaced) → IsCut bytes ps → ended_tokens ss ≡ tokens_of ps → has_scrap (tokens_of ps) ≡ false → AreReadable ss

@@ -6,27 +6,14 @@ use Rattle.std.proofs.lemmas.Bool.Decides.{nat_tests}
 use Rattle.std.proofs.lemmas.Fmt.{decimal-digits_value}
 use Rattle.std.proofs.lemmas.Slice.Eq.{bytes_eq-Decides}
 use Rattle.std.proofs.lemmas.Str.Parse.{IsNumeralModel, numerals_by_fold}
+use Rattle.std.proofs.lemmas.Bool.{and_parts, eqb-true}
 use Rattle.fut_syntax.specs.declared.token.Token.{Token}
 use Rattle.fut_syntax.specs.declared.token.Token.TheVariants as t
 use Rattle.fut_syntax.specs.declared.kind.Mark.{Mark}
 use Rattle.fut_syntax.specs.declared.kind.Mark.TheVariants.{Alone, Paired}
-use Rattle.fut_syntax.specs.Cut.{look_up, keywords, symbols, keyword_of, mark_of, each, is_letter, is_blank, is_word, is_digit, word_or, word_token, has_leading_zero, value_from, number_token, Letter, Digit, Blank, Other, token_by, token_of}
+use Rattle.fut_syntax.specs.Cut.{keywords, symbols, keyword_of, mark_of, each, is_letter, is_blank, is_word, is_digit, word_or, word_token, has_leading_zero, value_from, number_token, Letter, Digit, Blank, Other, token_by, token_of}
 use Rattle.fut_syntax.specs.Spelling.{spelling, IsReadable}
-use Rattle.fut_syntax.proofs.Tests.{and_left, and_right, is_one}
-
-abbrev every : {K A : Type 0} → (K → A → Bool) → List (K × A) → Bool
-every good [] = true
-every good (entry ∷ table) = good entry.0 entry.1 && every good table
-
-found_by : {K A : Type 0} (good : K → A → Bool) (test : K → Bool) (b : Bool) (k : K) (y x : A) (o : Option A) → test k ≡ b → good k y ≡ true → (o ≡ Some x → (j : K) × (test j ≡ true) × (good j x ≡ true)) → (if b then Some y else o) ≡ Some x → (j : K) × (test j ≡ true) × (good j x ≡ true)
-found_by good test true k y x o t g h e = let same : y ≡ x = cc in (k, t, ap (good k) (sym same) ∙ g)
-found_by good test false k y x o t g h e = h e
-
--- what a table has stands there at a key that passes
-found : {K A : Type 0} (good : K → A → Bool) (test : K → Bool) (table : List (K × A)) (x : A) → every good table ≡ true → look_up test table ≡ Some x → (k : K) × (test k ≡ true) × (good k x ≡ true)
-found good test [] x g e = absurd (cc)
-found good test (entry ∷ table) x g e =
-    found_by good test (test entry.0) entry.0 entry.1 x (look_up test table) refl (and_left (good entry.0 entry.1) (every good table) g) (λ h. found good test table x (and_right (good entry.0 entry.1) (every good table) g) h) e
+use Rattle.fut_syntax.proofs.Tables.{found}
 
 abbrev is_spelled : List ℕ → Token → Bool
 is_spelled bs x = bytes_eq (spelling x) bs
@@ -45,7 +32,7 @@ mark_spelled : (b : ℕ) (x : Mark) → mark_of b ≡ Some x → are_spelled b x
 unfolding mark_of
 mark_spelled b x e =
     let h = found are_spelled (nat_eq b) symbols x refl e in
-    ap (λ (q : ℕ). are_spelled q x) (is_one b h.0 h.1) ∙ h.2
+    ap (λ (q : ℕ). are_spelled q x) (eqb-true b h.0 h.1) ∙ h.2
 
 spelled_is : (bs : List ℕ) (x : Token) → is_spelled bs x ≡ true → spelling x ≡ bs
 spelled_is bs x h = (bytes_eq-Decides (spelling x) bs).0 h
@@ -85,12 +72,12 @@ by_mark b [] None x e h n = absurd (n (cc))
 by_mark b (c ∷ bs) None x e h n = absurd (cc)
 by_mark b [] (Some (Alone y)) x e h n = let same : y ≡ x = cc in ap spelling (sym same) ∙ spelled_is (b ∷ []) y (mark_spelled b (Alone y) e)
 by_mark b (c ∷ bs) (Some (Alone y)) x e h n = absurd (cc)
-by_mark b [] (Some (Paired y z)) x e h n = let same : y ≡ x = cc in ap spelling (sym same) ∙ spelled_is (b ∷ []) y (and_left (is_spelled (b ∷ []) y) (is_spelled (b ∷ 61 ∷ []) z) (mark_spelled b (Paired y z) e))
+by_mark b [] (Some (Paired y z)) x e h n = let same : y ≡ x = cc in ap spelling (sym same) ∙ spelled_is (b ∷ []) y ((and_parts (is_spelled (b ∷ []) y) (is_spelled (b ∷ 61 ∷ []) z) (mark_spelled b (Paired y z) e)).0)
 by_mark b (c ∷ []) (Some (Paired y z)) x e h n =
     let k = if_some (nat_eq c 61) z x h in
     ap spelling (sym k.1)
-    ∙ spelled_is (b ∷ 61 ∷ []) z (and_right (is_spelled (b ∷ []) y) (is_spelled (b ∷ 61 ∷ []) z) (mark_spelled b (Paired y z) e))
-    ∙ ap (λ (q : ℕ). b ∷ q ∷ []) (sym (is_one c 61 k.0))
+    ∙ spelled_is (b ∷ 61 ∷ []) z ((and_parts (is_spelled (b ∷ []) y) (is_spelled (b ∷ 61 ∷ []) z) (mark_spelled b (Paired y z) e)).1)
+    ∙ ap (λ (q : ℕ). b ∷ q ∷ []) (sym (eqb-true c 61 k.0))
 by_mark b (c ∷ d ∷ bs) (Some (Paired y z)) x e h n = absurd (cc)
 
 by_class : (l d k : Bool) (b : ℕ) (bs : List ℕ) (x : Token) → is_digit b ≡ d → token_by (if l then Letter else (if d then Digit else (if k then Blank else Other (mark_of b)))) b bs ≡ Some x → x ≢ t.Scrap → spelling x ≡ b ∷ bs

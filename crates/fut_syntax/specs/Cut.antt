@@ -10,6 +10,7 @@ use Rattle.fut_syntax.specs.declared.kind.Mark.TheVariants.{Alone, Paired}
 abbrev pub is_blank : ℕ → Bool
 is_blank b = nat_eq b 32 || nat_eq b 9 || nat_eq b 10 || nat_eq b 13
 
+-- `0` to `9`
 abbrev pub is_digit : ℕ → Bool
 is_digit b = nat_le 48 b && nat_le b 57
 
@@ -35,6 +36,7 @@ abbrev pub look_up : {K A : Type 0} → (K → Bool) → List (K × A) → Optio
 look_up test [] = None
 look_up test (entry ∷ table) = if test entry.0 then Some entry.1 else look_up test table
 
+-- the keywords as they are written
 abbrev pub keywords : List (List ℕ × Token)
 keywords =
     (codes "cells", t.Cells)
@@ -78,9 +80,11 @@ symbols =
     ∷ (62, Paired t.Greater t.GreaterEqual)
     ∷ []
 
+-- the keyword that is written so, if it is one
 unfoldable pub keyword_of : List ℕ → Option Token
 keyword_of w = look_up (bytes_eq w) keywords
 
+-- the symbols that a byte begins, if there are any
 unfoldable pub mark_of : ℕ → Option Mark
 mark_of b = look_up (nat_eq b) symbols
 
@@ -88,6 +92,7 @@ mark_of b = look_up (nat_eq b) symbols
 abbrev pub plain_word : List ℕ → Token
 plain_word w = if nat_le (length w) 32 then t.Word w else t.Scrap
 
+-- the keyword, or else what the bytes are without it
 abbrev pub word_or : Option Token → List ℕ → Token
 word_or (Some keyword) w = keyword
 word_or None w = plain_word w
@@ -101,6 +106,7 @@ abbrev pub value_from : ℕ → List ℕ → ℕ
 value_from n [] = n
 value_from n (d ∷ ds) = value_from (n * 10 + (d - 48)) ds
 
+-- a 0 stands first, and more behind it
 abbrev pub has_leading_zero : List ℕ → Bool
 has_leading_zero (a ∷ b ∷ ds) = nat_eq a 48
 has_leading_zero _ = false
@@ -120,6 +126,7 @@ pub data Class : Type 0 where
   Blank : Class
   Other : Option Mark → Class
 
+-- what a byte begins
 abbrev pub class_of : ℕ → Class
 class_of b = if is_letter b then Letter else (if is_digit b then Digit else (if is_blank b then Blank else Other (mark_of b)))
 
@@ -151,6 +158,7 @@ pub data Piece : Type 0 where
   Comment : List ℕ → Piece
   Lexeme : List ℕ → Token → Piece
 
+-- the bytes of a piece
 abbrev pub bytes_of : Piece → List ℕ
 bytes_of (Space b) = b ∷ []
 bytes_of (Comment c) = 47 ∷ 47 ∷ c
@@ -161,6 +169,7 @@ abbrev pub EndsLine : List ℕ → Type 0
 EndsLine [] = Unit {0}
 EndsLine (b ∷ bs) = b ≡ 10
 
+-- two strokes stand first
 abbrev pub starts_comment : List ℕ → Bool
 starts_comment (a ∷ b ∷ bs) = nat_eq a 47 && nat_eq b 47
 starts_comment _ = false

@@ -31,6 +31,7 @@ pub record IsTokensOf (bytes : List ℕ) (tokens : List Token) (places : List Pl
   pub are : tokens ≡ tokens_of pieces
   pub stand : places ≡ places_of [] pieces
 
+-- a comment is among some pieces
 abbrev pub has_comment : List Piece → Bool
 has_comment [] = false
 has_comment (Comment c ∷ ps) = true

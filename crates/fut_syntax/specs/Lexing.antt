@@ -19,6 +19,7 @@ places_in place part.Space = []
 places_in place part.Comment = []
 places_in place (part.Lexeme x) = place ∷ []
 
+-- a part is a comment
 abbrev pub is_comment : Part → Bool
 is_comment part.Comment = true
 is_comment _ = false

@@ -11,5 +11,6 @@ Ends p (b ∷ bs) = p b ≡ false
 abbrev pub IsRun : (ℕ → Bool) → List ℕ → ℕ → Type 0
 IsRun p bs n = (n ≤ length bs) × (each p (take n bs) ≡ true) × Ends p (drop n bs)
 
+-- each byte is a digit
 abbrev pub AllDigits : List ℕ → Type 0
 AllDigits bs = (i : ℕ) → i < length bs → (48 ≤ get_or bs i 0) × (get_or bs i 0 ≤ 57)

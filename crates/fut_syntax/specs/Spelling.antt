@@ -71,18 +71,22 @@ abbrev pub ended_tokens : List Spaced → List Token
 ended_tokens [] = t.End ∷ []
 ended_tokens (s ∷ ss) = s.token ∷ ended_tokens ss
 
+-- each token is readable
 abbrev pub AreReadable : List Spaced → Type 0
 AreReadable [] = Unit {0}
 AreReadable (s ∷ ss) = IsReadable s.token × AreReadable ss
 
+-- each blank is one
 abbrev pub AreBlank : List Spaced → Type 0
 AreBlank [] = Unit {0}
 AreBlank (s ∷ ss) = (is_blank s.blank ≡ true) × AreBlank ss
 
+-- a token is a scrap
 abbrev pub is_scrap : Token → Bool
 is_scrap t.Scrap = true
 is_scrap _ = false
 
+-- a scrap is among some tokens
 abbrev pub has_scrap : List Token → Bool
 has_scrap [] = false
 has_scrap (x ∷ xs) = is_scrap x || has_scrap xs
