@@ -1,2 +1,6 @@
-pub mod PieceLemmas
 pub mod Consuming
+pub mod Feeding
+pub mod Lines
+pub mod PieceLemmas
+pub mod Serially
+pub mod Steps

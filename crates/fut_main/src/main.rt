@@ -4,6 +4,7 @@
 mod input;
 mod pieces;
 mod run_text;
+mod serial;
 mod words;
 
 fn main() {}
