@@ -12,3 +12,4 @@ pub mod Counted
 pub mod Wholes
 pub mod Tops
 pub mod Decided
+pub mod Unparsed

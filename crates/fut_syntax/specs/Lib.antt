@@ -8,3 +8,4 @@ pub mod Views
 pub mod Steps
 pub mod Answers
 pub mod Laws
+pub mod Writing

@@ -14,3 +14,5 @@ mod stmts;
 pub mod token;
 pub mod tree;
 mod types;
+mod unparse;
+mod unparse_stmts;
