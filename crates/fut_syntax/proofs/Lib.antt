@@ -13,3 +13,5 @@ pub mod Wholes
 pub mod Tops
 pub mod Decided
 pub mod Unparsed
+pub mod Appends
+pub mod Scraps

@@ -1,5 +1,6 @@
 pub mod Trees
 pub mod Tokens
+pub mod Lines
 pub mod Faults
 pub mod Ended
 pub mod Machine
