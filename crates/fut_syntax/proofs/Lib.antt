@@ -12,6 +12,6 @@ pub mod Counted
 pub mod Wholes
 pub mod Tops
 pub mod Decided
-pub mod Unparsed
+pub mod Written
 pub mod Appends
 pub mod Scraps

@@ -18,11 +18,6 @@ abbrev pub lines_ended : List (List Token) → List Token
 lines_ended [] = t.End ∷ []
 lines_ended (line ∷ lines) = line ++ lines_ended lines
 
--- a line begins with a token
-abbrev pub HasFirst : List Token → Type 0
-HasFirst [] = ⊥
-HasFirst (x ∷ xs) = Unit {0}
-
 abbrev pub is_scrap : Token → Bool
 is_scrap t.Scrap = true
 is_scrap _ = false

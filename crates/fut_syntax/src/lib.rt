@@ -14,5 +14,6 @@ mod stmts;
 pub mod token;
 pub mod tree;
 mod types;
-mod unparse;
-mod unparse_stmts;
+mod write_exprs;
+pub mod write_items;
+mod write_stmts;

@@ -1,7 +1,7 @@
 use Rattle.std.proofs.Common.{◌≡◌, ◌++◌, List}
 use Rattle.fut_syntax.specs.declared.token.Token.{Token}
 use Rattle.fut_syntax.specs.Tokens.{type_before}
-use Rattle.fut_syntax.proofs.unparse.put_type.Given as goal
+use Rattle.fut_syntax.proofs.write_exprs.put_type.Given as goal
 
 abbrev pub invariant-loop-left : goal.invariant-loop-left
 invariant-loop-left l = (r : List Token) → l.out.items ++ type_before l.left r ≡ l.fn.out.items ++ type_before l.depth r

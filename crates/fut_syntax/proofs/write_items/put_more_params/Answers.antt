@@ -1,6 +1,6 @@
 use Rattle.std.proofs.lemmas.Result.{on_ok_weaker}
-use Rattle.fut_syntax.proofs.Unparsed.{more_params_done}
-use Rattle.fut_syntax.proofs.unparse_stmts.put_more_params.Goals as goal
+use Rattle.fut_syntax.proofs.Written.{more_params_done}
+use Rattle.fut_syntax.proofs.write_items.put_more_params.Goals as goal
 
 pub returns : goal.returns
 returns c =

@@ -1,6 +1,6 @@
 use Rattle.std.proofs.lemmas.Result.{on_ok_weaker}
-use Rattle.fut_syntax.proofs.Unparsed.{more_done}
-use Rattle.fut_syntax.proofs.unparse.put_more.Goals as goal
+use Rattle.fut_syntax.proofs.Written.{more_done}
+use Rattle.fut_syntax.proofs.write_exprs.put_more.Goals as goal
 
 pub returns : goal.returns
 returns c =

@@ -127,7 +127,12 @@ fn put_args(alloc: Global, out: &mut Vec<Token>, given: &[Expr]) -> Result<(), N
     }
 }
 
-pub fn put_call(alloc: Global, out: &mut Vec<Token>, name: &Items<u8>, given: &Items<Expr>) -> Result<(), NoMemory>
+pub fn put_call(
+    alloc: Global,
+    out: &mut Vec<Token>,
+    name: &Items<u8>,
+    given: &Items<Expr>,
+) -> Result<(), NoMemory>
     ensures { OnOk result (Wrote out.old.items out.new.items (call_before name.now (args_tree given.now))) }
 {
     put_word(alloc, out, name)?;
@@ -135,7 +140,12 @@ pub fn put_call(alloc: Global, out: &mut Vec<Token>, name: &Items<u8>, given: &I
     put_args(alloc, out, given.as_slice())
 }
 
-pub fn put_element(alloc: Global, out: &mut Vec<Token>, name: &Items<u8>, index: &Expr) -> Result<(), NoMemory>
+pub fn put_element(
+    alloc: Global,
+    out: &mut Vec<Token>,
+    name: &Items<u8>,
+    index: &Expr,
+) -> Result<(), NoMemory>
     ensures { OnOk result (Wrote out.old.items out.new.items (λ r. t.Word name.now ∷ t.LeftSquare ∷ expr_before (expr_tree index.now) (t.RightSquare ∷ r))) }
 {
     put_word(alloc, out, name)?;

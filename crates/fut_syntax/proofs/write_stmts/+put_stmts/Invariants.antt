@@ -3,7 +3,7 @@ use Rattle.fut_syntax.specs.declared.token.Token.{Token}
 use Rattle.fut_syntax.specs.declared.token.Token.TheVariants as t
 use Rattle.fut_syntax.specs.Tokens.{block_before}
 use Rattle.fut_syntax.specs.Views.{block_tree}
-use Rattle.fut_syntax.proofs.unparse_stmts.+put_stmts.Given as goal
+use Rattle.fut_syntax.proofs.write_stmts.+put_stmts.Given as goal
 
 abbrev pub invariant-put_block-loop-stmt : goal.invariant-put_block-loop-stmt
 invariant-put_block-loop-stmt l =

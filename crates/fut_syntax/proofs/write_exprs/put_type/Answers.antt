@@ -1,6 +1,6 @@
 use Rattle.fut_syntax.specs.Tokens.{type_before}
-use Rattle.fut_syntax.proofs.Unparsed.{fut_wrote}
-use Rattle.fut_syntax.proofs.unparse.put_type.Goals as goal
+use Rattle.fut_syntax.proofs.Written.{fut_wrote}
+use Rattle.fut_syntax.proofs.write_exprs.put_type.Goals as goal
 
 pub loop-left-preserved : goal.loop-left-preserved
 loop-left-preserved c =
