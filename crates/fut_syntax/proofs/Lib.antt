@@ -1,3 +1,4 @@
+pub mod Appends
 pub mod Begun
 pub mod Chains
 pub mod Counted
@@ -14,6 +15,7 @@ pub mod Never
 pub mod OneTree
 pub mod Places
 pub mod Programs
+pub mod Scraps
 pub mod Spacing
 pub mod Spelled
 pub mod Splits
@@ -25,3 +27,4 @@ pub mod Values
 pub mod Viable
 pub mod Whole
 pub mod Wholes
+pub mod Written

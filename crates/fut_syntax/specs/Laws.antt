@@ -1,5 +1,5 @@
 -- Laws over the machine and the grammar.
-use Rattle.std.specs.Prelude.{◌≡◌, ℕ, ◌⊎◌, List, [], ◌∷◌, Some, Result, Ok, Err}
+use Rattle.std.specs.Prelude.{◌≡◌, ℕ, ◌⊎◌, false, List, [], ◌∷◌, Some, Result, Ok, Err}
 use Rattle.fut_syntax.specs.declared.token.Token.{Token}
 use Rattle.fut_syntax.specs.declared.token.Token.TheVariants as t
 use Rattle.fut_syntax.specs.declared.tree.Item.{Item}
@@ -8,6 +8,7 @@ use Rattle.fut_syntax.specs.declared.parser.TokenFault.TheVariants as fault
 use Rattle.fut_syntax.specs.Trees.{Program}
 use Rattle.fut_syntax.specs.Tokens.{program_tokens}
 use Rattle.fut_syntax.specs.Views.{program_tree}
+use Rattle.fut_syntax.specs.Lines.{program_lines, lines_ended, has_scrap}
 use Rattle.fut_syntax.specs.Machine.{Symbol, First, walk, run64}
 use Rattle.fut_syntax.specs.Ended.{IsEnded}
 use Rattle.fut_syntax.specs.Faults.{IsBegun, IsFault, IsWhole}
@@ -36,6 +37,14 @@ NoFault = (xs : List Token) (p : Program) (left : ℕ) → IsWhole xs p → IsFa
 -- tokens with an end token have a tree or a fault
 abbrev pub EitherOne : Type 0
 EitherOne = (xs : List Token) → IsEnded xs → ((p : Program) × IsWhole xs p) ⊎ ((left : ℕ) × IsFault xs left)
+
+-- the lines of a program have its tokens
+abbrev pub LinesSpell : Type 0
+LinesSpell = (p : Program) → lines_ended (program_lines p) ≡ program_tokens p
+
+-- no program has a scrap
+abbrev pub NoScrap : Type 0
+NoScrap = (p : Program) → has_scrap (program_tokens p) ≡ false
 
 -- this program was read, or there was no memory
 abbrev pub Gives : Program → Result (List Item) TokenFault → Type 0

@@ -6,6 +6,7 @@ pub mod Laws
 pub mod LexLaws
 pub mod Lexed
 pub mod Lexing
+pub mod Lines
 pub mod Machine
 pub mod Parts
 pub mod Phrases
@@ -18,3 +19,4 @@ pub mod Texts
 pub mod Tokens
 pub mod Trees
 pub mod Views
+pub mod Writing

@@ -57,6 +57,7 @@ impl Model for Cursor {
 }
 
 impl Cursor {
+    /// All tokens are left.
     pub fn new(tokens: Vec<Token>) -> Cursor
         requires { IsEnded tokens.items }
         ensures { result ≡ tokens.items }

@@ -13,6 +13,7 @@ use crate::tree::{Expr, Operand, Primary};
 use sqlite_items::Boxed;
 use std::alloc::Global;
 
+/// An expression, where `depth` brackets are open.
 #[cycle(exprs)]
 pub fn expr(alloc: Global, cursor: &mut Cursor, depth: u32) -> Result<Expr, Stop>
     requires { depth ≤ 64 }
@@ -28,6 +29,7 @@ pub fn expr(alloc: Global, cursor: &mut Cursor, depth: u32) -> Result<Expr, Stop
     }
 }
 
+/// An operand with its sign, if it has one.
 #[cycle(exprs)]
 pub fn operand(alloc: Global, cursor: &mut Cursor, depth: u32) -> Result<Operand, Stop>
     requires { depth ≤ 64 }

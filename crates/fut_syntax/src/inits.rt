@@ -48,6 +48,7 @@ fn args(alloc: Global, cursor: &mut Cursor, depth: u32) -> Result<Items<Expr>, S
     }
 }
 
+/// A word and its arguments in brackets.
 pub fn call(alloc: Global, cursor: &mut Cursor, depth: u32) -> Result<Called, Stop>
     requires { depth ≤ 64 }
     ensures { ReadTo (Word' ∷ LeftParen' ∷ Args ∷ []) [] called call_tree depth depth cursor.old cursor.new result }
@@ -88,6 +89,7 @@ fn word_init(alloc: Global, cursor: &mut Cursor, depth: u32, name: Items<u8>) ->
     }
 }
 
+/// What a variable is set to.
 pub fn init(alloc: Global, cursor: &mut Cursor, depth: u32) -> Result<Init, Stop>
     requires { depth ≤ 64 }
     ensures { Read Init' init_before init_tree depth cursor.old cursor.new result }

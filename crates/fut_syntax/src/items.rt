@@ -15,6 +15,7 @@ use crate::types::{type_depth, var_type};
 use sqlite_items::Items;
 use std::alloc::Global;
 
+/// A word and its type.
 fn param(alloc: Global, cursor: &mut Cursor, depth: u32) -> Result<Param, Stop>
     requires { depth ≤ 64 }
     ensures { ReadTo (Word' ∷ Colon' ∷ Type' ∷ Length ∷ []) [] param_before param_tree depth depth cursor.old cursor.new result }
@@ -76,6 +77,7 @@ fn task(alloc: Global, cursor: &mut Cursor) -> Result<Item, Stop>
     Ok(Item::Task(name, given, result_depth, body))
 }
 
+/// An item with its first word.
 fn item(alloc: Global, cursor: &mut Cursor) -> Result<Item, Stop>
     ensures { ReadTo (First ∷ []) (More ∷ []) item_before item_tree 0 0 cursor.old cursor.new result }
 {

@@ -1,6 +1,6 @@
 //! Laws over the grammar and its fault places.
-ghost use Rattle.fut_syntax.specs.Laws.{Completions, StopIsFault, OneTree, OneFault, NoFault, EitherOne, ReadsAgain, SecondOperator};
 ghost use Rattle.fut_syntax.specs.TextLaws.{OneProgram, NoFaultyProgram};
+ghost use Rattle.fut_syntax.specs.Laws.{Completions, StopIsFault, OneTree, OneFault, NoFault, EitherOne, LinesSpell, NoScrap, ReadsAgain, SecondOperator};
 
 /// What the grammar's machine goes through is the beginning of a program.
 pub fn completions()
@@ -30,6 +30,16 @@ pub fn no_fault()
 /// Tokens with an end token have a tree or a fault.
 pub fn either_one()
     ensures { EitherOne }
+{}
+
+/// The lines of a program have its tokens.
+pub fn lines_spell()
+    ensures { LinesSpell }
+{}
+
+/// No program has a scrap.
+pub fn no_scrap()
+    ensures { NoScrap }
 {}
 
 /// What a tree spells is read as this tree.

@@ -25,6 +25,9 @@ mod stmts;
 pub mod token;
 pub mod tree;
 mod types;
+mod write_exprs;
+pub mod write_items;
+mod write_stmts;
 
 pub use lexer::{Lexed, tokens};
 pub use lexer_laws::{

@@ -2,6 +2,7 @@
 use crate::parser::{TokenFault, parse_tokens};
 use crate::token::Token;
 use crate::tree::Item;
+use crate::write_items::item_tokens;
 use sqlite_items::Items;
 use std::test::Fail;
 
@@ -20,9 +21,10 @@ fn cells_are_read(rt: HostRuntime) -> Result<(), Fail> {
     ]?;
     let items = parse_tokens(alloc, tokens)?;
     match items.as_slice() {
-        [Item::Cells(name, length)] => {
+        [item @ Item::Cells(name, length)] => {
             assert_eq!(rt; name.as_slice(), b"a".as_slice());
             assert_eq!(rt; *length, 4);
+            assert_eq!(rt; item_tokens(alloc, item)?.len(), 6);
         }
         _ => assert!(rt; false, "one array of cells"),
     }

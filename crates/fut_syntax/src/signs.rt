@@ -26,12 +26,14 @@ pub fn enter(cursor: &mut Cursor, depth: u32) -> Result<u32, Stop>
     Ok(depth + 1)
 }
 
+/// A name of its own for a tree.
 pub fn copy_name(alloc: Global, name: &Items<u8>) -> Result<Items<u8>, Stop>
     ensures { Copied name.now result }
 {
     Ok(Items::from_slice(alloc, name.as_slice())?)
 }
 
+/// Takes a word.
 pub fn word(alloc: Global, cursor: &mut Cursor) -> Result<Items<u8>, Stop>
     ensures { TakenPart Word' word_before cursor.old cursor.new result }
 {
@@ -43,6 +45,7 @@ pub fn word(alloc: Global, cursor: &mut Cursor) -> Result<Items<u8>, Stop>
     Ok(name)
 }
 
+/// Takes a number.
 pub fn number(cursor: &mut Cursor) -> Result<u64, Stop>
     ensures { TakenPart Number' number_before cursor.old cursor.new result }
 {
@@ -76,6 +79,7 @@ pub fn open_square(cursor: &mut Cursor, depth: u32) -> Result<u32, Stop>
     }
 }
 
+/// Takes a closing round bracket.
 pub fn close_paren(cursor: &mut Cursor) -> Result<(), Stop>
     ensures { Closed RightParen' t.RightParen cursor.old cursor.new result }
 {
@@ -88,6 +92,7 @@ pub fn close_paren(cursor: &mut Cursor) -> Result<(), Stop>
     }
 }
 
+/// Takes a closing square bracket.
 pub fn close_square(cursor: &mut Cursor) -> Result<(), Stop>
     ensures { Closed RightSquare' t.RightSquare cursor.old cursor.new result }
 {
@@ -100,6 +105,7 @@ pub fn close_square(cursor: &mut Cursor) -> Result<(), Stop>
     }
 }
 
+/// Takes a semicolon.
 pub fn semicolon(cursor: &mut Cursor) -> Result<(), Stop>
     ensures { Taken Semicolon' t.Semicolon cursor.old cursor.new result }
 {
@@ -112,6 +118,7 @@ pub fn semicolon(cursor: &mut Cursor) -> Result<(), Stop>
     }
 }
 
+/// Takes a colon.
 pub fn colon(cursor: &mut Cursor) -> Result<(), Stop>
     ensures { Taken Colon' t.Colon cursor.old cursor.new result }
 {
@@ -124,6 +131,7 @@ pub fn colon(cursor: &mut Cursor) -> Result<(), Stop>
     }
 }
 
+/// Takes the sign `=`.
 pub fn equals(cursor: &mut Cursor) -> Result<(), Stop>
     ensures { Taken Equals' t.Equals cursor.old cursor.new result }
 {

@@ -17,6 +17,7 @@ use crate::types::var_type;
 use sqlite_items::Items;
 use std::alloc::Global;
 
+/// A block with its brackets, where `depth` brackets are open before it.
 #[cycle(stmts)]
 pub fn block(alloc: Global, cursor: &mut Cursor, depth: u32) -> Result<Items<Stmt>, Stop>
     requires { depth ≤ 64 }
