@@ -3,7 +3,7 @@ use Rattle.std.specs.Prelude.{◌≡◌, ℕ, false, ◌<◌, ◌≤◌, ◌^◌
 use Rattle.fut_base.specs.Dag.{Among}
 use Rattle.fut_syntax.specs.Lexed.{HasComments}
 use Rattle.fut_syntax.specs.Texts.{IsProgram}
-use Rattle.fut_syntax.specs.Trees.{Expr, Alone, Pair, Operand, Signed, NoSign, Negative, Inverted, Literal, Name, Bracket, Stmt, Declare, Define, Assign, Store, SpawnOf, SyncAll, If', While', Return', Block, Done, Then, Item, CellsOf, TaskOf, Program}
+use Rattle.fut_syntax.specs.Trees.{Expr, Alone, Pair, Signed, NoSign, Negative, Inverted, Literal, Name, Bracket, Stmt, Declare, Define, Assign, Store, SpawnOf, SyncAll, If', While', Return', Block, Done, Then, Item, CellsOf, TaskOf, Program}
 
 abbrev pub name_of : Item → List ℕ
 name_of (CellsOf name _) = name

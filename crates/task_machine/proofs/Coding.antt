@@ -11,7 +11,7 @@ use Rattle.fut_syntax.specs.Trees as tree
 use Rattle.fut_syntax.specs.Small.{items_of, array_names, task_names, AreTasks, AreBare, LengthsFit, IsLiteral, IsSmallStmt, WritesAmong, SpawnsAmong, EachStmt, EachStmtOf, IsSmall}
 use Rattle.task_machine.specs.declared.instruction.Instruction.{Instruction}
 use Rattle.task_machine.specs.Variables.{number_in}
-use Rattle.task_machine.specs.Texts.{CellArray, TaskText, arrays_from, count_cells, tasks_from, number_from, find_cell, stmts_of}
+use Rattle.task_machine.specs.Texts.{CellArray, arrays_from, count_cells, tasks_from, number_from, find_cell, stmts_of}
 use Rattle.fut_syntax.specs.Views.{item_tree, items_tree, block_tree, program_tree}
 use Rattle.task_machine.specs.Flat.{DoAll, AreCodesOf, Fits, ArraysFit, literal_of, Compiled, IsCodeOf, HasCell}
 

@@ -13,7 +13,7 @@ use Rattle.fut_syntax.specs.Trees as tree
 use Rattle.task_machine.specs.Texts.{main_of}
 use Rattle.task_machine.specs.State.{TaskState}
 use Rattle.task_machine.specs.Machine.{Machine, Running, opening, begins, after, acted, child_of, Permits, IsStep, Leads}
-use Rattle.task_machine.proofs.Places.{get_set_append, get_below}
+use Rattle.task_machine.proofs.Places.{get_set_append, get_below, get_set_same, get_set_other, get_new}
 
 pub strands_rise : (P : tree.Program) (m : Machine) (e : Event) (n : Machine) → IsStep P m e n → n.strands ≡ m.strands + strands_by e.action
 strands_rise P m e n x = ap (λ (q : Machine). q.strands) x.gives
@@ -121,3 +121,20 @@ children_come_later P h m t r x present = (leads_numbered P (opening P) h m x (b
 
 pub strands_were_made : (P : tree.Program) (h : List Event) (m : Machine) (t : ℕ) (r : Running) → Leads P (opening P) h m → slice_get m.tasks t ≡ Some r → r.strand < m.strands
 strands_were_made P h m t r x present = (leads_numbered P (opening P) h m x (begun P) t r present).strand
+
+pub acting_task : (P : tree.Program) (m : Machine) (e : Event) (n : Machine) → (x : IsStep P m e n) → slice_get n.tasks e.task ≡ Some (acted x.task x.stop e.action)
+acting_task P m e n x =
+    subst (λ (q : Machine). slice_get q.tasks e.task ≡ Some (acted x.task x.stop e.action)) (sym x.gives) (get_set_same m.tasks (child_of P x.task e.action) e.task (acted x.task x.stop e.action) x.task x.present)
+
+pub others_stay : (P : tree.Program) (m : Machine) (e : Event) (n : Machine) (t : ℕ) (r : Running) → IsStep P m e n → (t ≡ e.task → ⊥) → slice_get m.tasks t ≡ Some r → slice_get n.tasks t ≡ Some r
+others_stay P m e n t r x other present =
+    subst (λ (q : Machine). slice_get q.tasks t ≡ Some r) (sym x.gives) (get_set_other m.tasks (child_of P x.task e.action) e.task (acted x.task x.stop e.action) t r other present)
+
+pub child_comes : (P : tree.Program) (m : Machine) (e : Event) (n : Machine) (r : Running) → (x : IsStep P m e n) → child_of P x.task e.action ≡ r ∷ [] → slice_get n.tasks (length m.tasks) ≡ Some r
+child_comes P m e n r x made =
+    let whole : n ≡ after P m e x.task x.stop = x.gives in
+    let same = length-set m.tasks e.task (acted x.task x.stop e.action) in
+    subst (λ (q : Machine). slice_get q.tasks (length m.tasks) ≡ Some r) (sym whole)
+    (subst (λ k. slice_get (slice_set m.tasks e.task (acted x.task x.stop e.action) ++ child_of P x.task e.action) k ≡ Some r) same
+    (subst (λ (ys : List Running). slice_get (slice_set m.tasks e.task (acted x.task x.stop e.action) ++ ys) (length (slice_set m.tasks e.task (acted x.task x.stop e.action))) ≡ Some r) (sym made)
+    (get_new (slice_set m.tasks e.task (acted x.task x.stop e.action)) [] r)))

@@ -30,3 +30,24 @@ pub get_below : {X : Type 0} (xs : List X) (t : ℕ) (r : X) → slice_get xs t 
 get_below [] t r h = cc
 get_below (y ∷ xs) zero r h = omega arith
 get_below (y ∷ xs) (suc t) r h = omega (arith, get_below xs t r h)
+
+pub get_set_same : {X : Type 0} (xs ys : List X) (i : ℕ) (x old : X) → slice_get xs i ≡ Some old → slice_get (slice_set xs i x ++ ys) i ≡ Some x
+get_set_same [] ys i x old h = cc
+get_set_same (y ∷ xs) ys zero x old h = refl
+get_set_same (y ∷ xs) ys (suc i) x old h = get_set_same xs ys i x old h
+
+get_old : {X : Type 0} (xs ys : List X) (t : ℕ) (r : X) → slice_get xs t ≡ Some r → slice_get (xs ++ ys) t ≡ Some r
+get_old [] ys t r h = cc
+get_old (y ∷ xs) ys zero r h = h
+get_old (y ∷ xs) ys (suc t) r h = get_old xs ys t r h
+
+pub get_set_other : {X : Type 0} (xs ys : List X) (i : ℕ) (x : X) (t : ℕ) (r : X) → (t ≡ i → ⊥) → slice_get xs t ≡ Some r → slice_get (slice_set xs i x ++ ys) t ≡ Some r
+get_set_other [] ys i x t r other h = cc
+get_set_other (y ∷ xs) ys zero x zero r other h = absurd (other refl)
+get_set_other (y ∷ xs) ys zero x (suc t) r other h = get_old xs ys t r h
+get_set_other (y ∷ xs) ys (suc i) x zero r other h = h
+get_set_other (y ∷ xs) ys (suc i) x (suc t) r other h = get_set_other xs ys i x t r (λ e. other (ap suc e)) h
+
+pub get_new : {X : Type 0} (xs ys : List X) (r : X) → slice_get (xs ++ r ∷ ys) (length xs) ≡ Some r
+get_new [] ys r = refl
+get_new (x ∷ xs) ys r = get_new xs ys r

@@ -1,6 +1,6 @@
 -- How the instructions that are left do what is to do.
 use Rattle.std.proofs.Common.{◌≡◌, ℕ, zero, suc, ◌+◌, ◌<◌, ◌≤◌, Bool, true, false, cond, List, [], ◌∷◌, ◌++◌, length, drop, ◌⊎◌, inl, inr, refl, sym, ap, ◌∙◌, subst, arith, lit<}
-use Rattle.std.specs.Prelude.{ℤ, pos, Some, None, map, nat_lt, slice_get, unwrap_or}
+use Rattle.std.specs.Prelude.{ℤ, pos, Some, None, nat_lt, slice_get}
 use Rattle.std.proofs.lemmas.List.{map-append}
 use Rattle.std.proofs.lemmas.Bool.{ltb-false}
 use Rattle.fut_base.specs.declared.record.Value.{Value}
@@ -16,10 +16,10 @@ use Rattle.task_machine.specs.declared.instruction.Instruction.{Instruction}
 use Rattle.task_machine.specs.declared.instruction.Instruction.TheVariants.{Write, Spawn, Sync, Return}
 use Rattle.task_machine.specs.declared.task.Spot.{Spot}
 use Rattle.task_machine.specs.Variables.{Variables, slot_at, bound, value_in, number_in}
-use Rattle.task_machine.specs.Texts.{TaskText, tasks_of, task_at, cell_at, task_number}
+use Rattle.task_machine.specs.Texts.{TaskText, tasks_of, task_at, cell_at}
 use Rattle.task_machine.specs.State.{TaskState, Wish, ToRead, ToWrite, ToSpawn, ToCreate, ToSync, ToGet, ToEnd, started, start_state, store_step, step_by, first_step, local_step, write_of, spawn_of, end_of, wish_by, first_wish, wish_of, Answers, after_sync, effect_of}
 use Rattle.task_machine.specs.Runs.{StandsWithin, GoesOn, StandsAt, Follows, IsStateAfter}
-use Rattle.task_machine.specs.Flat.{Compiled, TaskNow, instructions_of, instruction_at, told, next_place, place_after_sync, spot_after, Does, DoAll, IsCodeOfTask, AreCodesOf, IsCodeOf, IsIn, trace_events, IsTaskOf, Wishes}
+use Rattle.task_machine.specs.Flat.{Compiled, TaskNow, instructions_of, instruction_at, told, next_place, place_after_sync, spot_after, Does, DoAll, AreCodesOf, IsCodeOf, IsIn, trace_events, IsTaskOf, Wishes}
 use Rattle.task_machine.proofs.Stepping.{stands_at_one}
 
 -- ---- the instructions that are left
@@ -136,7 +136,7 @@ wishes P limit code args task s below running x =
     let place : IsIn P code task s = x.place running in
     let at = stands P code task s place in
     told_wish P limit s (instruction_at (instructions_of code.tasks task.which) task.spot.next) task.spot.is_open below at.stop
-      (subst (λ b. wish_of P s ≡ wish_for b (instruction_at (instructions_of code.tasks task.which) task.spot.next)) (sym place.is_open) at.wish)
+    (subst (λ b. wish_of P s ≡ wish_for b (instruction_at (instructions_of code.tasks task.which) task.spot.next)) (sym place.is_open) at.wish)
 
 pub goes_on_not : (P : tree.Program) (limit : ℕ) (s : TaskState) → limit ≡ 0 → GoesOn limit s
 goes_on_not P limit s none = subst (λ n. GoesOn n s) (sym none) (s, refl)
@@ -228,7 +228,7 @@ moves P code spot s (Syncs strand) k answers w running =
       vars = k.vars;
       is_open = refl;
       todo = subst (λ xs. DoAll (items_of P) (after_sync s.todo) xs) (sym (sync_drop code spot.next (instruction_at code spot.next) ∙ ap (left_after (drop spot.next code)) (at_head code spot.next)))
-        (sync_done (items_of P) s.todo (drop spot.next code) s.is_open k.todo (sym w ∙ answers));
+          (sync_done (items_of P) s.todo (drop spot.next code) s.is_open k.todo (sym w ∙ answers));
     }
 moves P code spot s (Gets future value strand) k answers w running = absurd (never s.is_open _ (ToGet future) (λ c z e. cc) (λ c e. cc) (λ e. cc) (λ v e. cc) (sym w ∙ answers))
 moves P code spot s (Ends value) k answers w running = absurd (cc)
@@ -254,21 +254,21 @@ fed P code args old new s t ticket entry which spot trace x at answers =
     let events : trace_events new.trace.items ≡ trace_events old.trace.items ++ event_of entry ∷ [] = ap trace_events trace ∙ map-append (λ (p : ℕ × Entry). event_of p.1) old.trace.items ((ticket, entry) ∷ []) in
     record {
       state =
-        subst (λ w. IsStateAfter P w args (trace_events new.trace.items) (effect_of t (action_of entry.act))) (sym which)
+          subst (λ w. IsStateAfter P w args (trace_events new.trace.items) (effect_of t (action_of entry.act))) (sym which)
           (subst (λ es. IsStateAfter P old.which args es (effect_of t (action_of entry.act))) (sym events) (follows_more P (start_state P old.which args) (trace_events old.trace.items) s t (event_of entry) x.state at answers));
       place = λ ended. (
-        let running : (spot_after instructions old.spot (action_of entry.act)).ended ≡ false = subst (λ (q : Spot). q.ended ≡ false) spot ended in
-        let place : IsIn P code old s = x.place (still_running instructions old.spot (action_of entry.act) running) in
-        let same : s ≡ t = no_steps P code old s t place at in
-        let wish : wish_of P s ≡ wish_for s.is_open (head_of (drop old.spot.next instructions)) = subst (λ i. wish_of P s ≡ wish_for s.is_open i) (at_head instructions old.spot.next) (stands P code old s place).wish in
-        let kept = moves P instructions old.spot s (action_of entry.act) (record { vars = place.vars; is_open = place.is_open; todo = place.todo }) (subst (λ q. Answers (wish_of P q) (action_of entry.act)) (sym same) answers) wish running in
-        let kept' = subst (λ (q : Spot). Keeps P instructions q (effect_of s (action_of entry.act))) (sym spot) kept in
-        let kept'' = subst (λ q. Keeps P instructions new.spot (effect_of q (action_of entry.act))) same kept' in
-        record {
-          vars = kept''.vars;
-          is_open = kept''.is_open;
-          todo = subst (λ w. DoAll (items_of P) (effect_of t (action_of entry.act)).todo (drop new.spot.next (instructions_of code.tasks w))) (sym which) kept''.todo;
-        });
+          let running : (spot_after instructions old.spot (action_of entry.act)).ended ≡ false = subst (λ (q : Spot). q.ended ≡ false) spot ended in
+          let place : IsIn P code old s = x.place (still_running instructions old.spot (action_of entry.act) running) in
+          let same : s ≡ t = no_steps P code old s t place at in
+          let wish : wish_of P s ≡ wish_for s.is_open (head_of (drop old.spot.next instructions)) = subst (λ i. wish_of P s ≡ wish_for s.is_open i) (at_head instructions old.spot.next) (stands P code old s place).wish in
+          let kept = moves P instructions old.spot s (action_of entry.act) (record { vars = place.vars; is_open = place.is_open; todo = place.todo }) (subst (λ q. Answers (wish_of P q) (action_of entry.act)) (sym same) answers) wish running in
+          let kept' = subst (λ (q : Spot). Keeps P instructions q (effect_of s (action_of entry.act))) (sym spot) kept in
+          let kept'' = subst (λ q. Keeps P instructions new.spot (effect_of q (action_of entry.act))) same kept' in
+          record {
+            vars = kept''.vars;
+            is_open = kept''.is_open;
+            todo = subst (λ w. DoAll (items_of P) (effect_of t (action_of entry.act)).todo (drop new.spot.next (instructions_of code.tasks w))) (sym which) kept''.todo;
+          });
     }
 
 -- ---- what the calls say
@@ -277,7 +277,7 @@ pub advances : (P : tree.Program) (limit : ℕ) (code : Compiled) (args : List V
     → 0 < limit → task.spot.ended ≡ false → IsTaskOf P code args task s → Wishes P limit s w
 advances P limit code args read task s i w same is told_is below running x =
     let whole : w ≡ told task.spot.is_open (instruction_at (instructions_of code.tasks task.which) task.spot.next) =
-      told_is ∙ ap (told read.spot.is_open) is ∙ ap (λ (q : TaskNow). told q.spot.is_open (instruction_at (instructions_of code.tasks q.which) q.spot.next)) same in
+    told_is ∙ ap (told read.spot.is_open) is ∙ ap (λ (q : TaskNow). told q.spot.is_open (instruction_at (instructions_of code.tasks q.which) q.spot.next)) same in
     subst (λ v. Wishes P limit s v) (sym whole) (wishes P limit code args task s below running x)
 
 pub feeds : (P : tree.Program) (code : Compiled) (args : List Value) (read old new : TaskNow) (s t : TaskState) (ticket : ℕ) (entry : Entry) → read ≡ old → new.which ≡ read.which

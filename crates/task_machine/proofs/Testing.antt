@@ -1,5 +1,5 @@
 -- What the test of small programs says.
-use Rattle.std.proofs.Common.{◌≡◌, ℕ, true, List, [], ◌∷◌, map, drop, length, refl, subst}
+use Rattle.std.proofs.Common.{◌≡◌, List, [], ◌∷◌, map, drop, length, refl}
 use Rattle.std.specs.Prelude.{◌≤◌, IsSomeAnd, codes}
 use Rattle.fut_base.specs.Dag.{Among}
 use Rattle.fut_syntax.specs.declared.tree.Item.{Item}

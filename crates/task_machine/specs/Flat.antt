@@ -1,9 +1,7 @@
 -- Flat code, and what it is of a small program.
-use Rattle.std.specs.Prelude.{◌≡◌, ℕ, zero, suc, ◌<◌, ◌≤◌, ◌+◌, ◌^◌, Bool, true, false, ◌⊎◌, List, [], ◌∷◌, map, drop, length, nat_lt, if◌then◌else◌, slice_get, Option, Some, None, unwrap_or, ℤ, pos}
+use Rattle.std.specs.Prelude.{◌≡◌, ℕ, ◌<◌, ◌≤◌, ◌+◌, ◌^◌, Bool, true, false, ◌⊎◌, List, [], ◌∷◌, map, drop, length, nat_lt, if◌then◌else◌, slice_get, Option, Some, None, unwrap_or, ℤ, pos}
 use Rattle.fut_base.specs.declared.record.Value.TheVariants.{Int}
 use Rattle.fut_base.specs.declared.record.Entry.{Entry}
-use Rattle.fut_base.specs.declared.record.Act.{Act}
-use Rattle.fut_base.specs.declared.record.Act.TheVariants as act
 use Rattle.fut_base.specs.declared.record.Value.{Value}
 use Rattle.fut_base.specs.declared.event.Event.{Event}
 use Rattle.fut_base.specs.declared.event.Action.{Action}

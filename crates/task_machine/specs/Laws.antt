@@ -6,7 +6,7 @@ use Rattle.fut_base.specs.Sound.{strands_by}
 use Rattle.fut_syntax.specs.Trees as tree
 use Rattle.task_machine.specs.State.{TaskState}
 use Rattle.task_machine.specs.Runs.{StandsAt, IsOutOfSteps}
-use Rattle.task_machine.specs.Machine.{Machine, Running, opening, IsStep, Leads, IsLegal}
+use Rattle.task_machine.specs.Machine.{Machine, Running, opening, acted, child_of, IsStep, Leads, IsLegal}
 
 -- an event leads from a machine to one machine
 abbrev pub StepIsOne : Type 0
@@ -46,3 +46,13 @@ StandsAtOne = (s t u : TaskState) → StandsAt s t → StandsAt s u → t ≡ u
 
 abbrev pub StandsOrGoesOn : Type 0
 StandsOrGoesOn = (s t : TaskState) → StandsAt s t → IsOutOfSteps s → ⊥
+
+-- after a step the acting task has acted, each other task is as it was, and the child that was made has the next number
+abbrev pub ActingTaskActs : Type 0
+ActingTaskActs = (P : tree.Program) (m : Machine) (e : Event) (n : Machine) → (x : IsStep P m e n) → slice_get n.tasks e.task ≡ Some (acted x.task x.stop e.action)
+
+abbrev pub OthersStay : Type 0
+OthersStay = (P : tree.Program) (m : Machine) (e : Event) (n : Machine) (t : ℕ) (r : Running) → IsStep P m e n → (t ≡ e.task → ⊥) → slice_get m.tasks t ≡ Some r → slice_get n.tasks t ≡ Some r
+
+abbrev pub ChildComes : Type 0
+ChildComes = (P : tree.Program) (m : Machine) (e : Event) (n : Machine) (r : Running) → (x : IsStep P m e n) → child_of P x.task e.action ≡ r ∷ [] → slice_get n.tasks (length m.tasks) ≡ Some r

@@ -42,9 +42,9 @@ spawn_code =
     record {
       arrays = record { name = codes "a"; first = 0; length = 1 } ∷ [];
       tasks =
-        (Write 0 (pos 1) ∷ Return (pos 0) ∷ [])
-        ∷ (Spawn 0 ∷ Write 0 (pos 2) ∷ Sync ∷ Return (pos 0) ∷ [])
-        ∷ [];
+          (Write 0 (pos 1) ∷ Return (pos 0) ∷ [])
+          ∷ (Spawn 0 ∷ Write 0 (pos 2) ∷ Sync ∷ Return (pos 0) ∷ [])
+          ∷ [];
       main = 1;
       cells = 1;
     }

@@ -127,13 +127,7 @@ impl Code {
         ensures { result ≡ next_place (instructions_of self.now.tasks task) place }
     {
         match self.tasks.get(task as usize) {
-            Some(code) => {
-                if place < code.len() {
-                    place + 1
-                } else {
-                    place
-                }
-            }
+            Some(code) => { if place < code.len() { place + 1 } else { place } }
             None => place,
         }
     }
@@ -150,7 +144,11 @@ fn arrays_of(alloc: Global, items: &[Item]) -> Result<Items<CellArray>, NoMemory
         if let Item::Cells(name, length) = item {
             let length = *length as u32;
             let name = Items::from_slice(alloc, name.as_slice())?;
-            arrays.push(CellArray { name, first, length })?;
+            arrays.push(CellArray {
+                name,
+                first,
+                length,
+            })?;
             first += length;
         }
     }
@@ -257,7 +255,10 @@ fn instruction_for(items: &[Item], arrays: &[CellArray], stmt: &Stmt) -> Instruc
 {
     match stmt {
         Stmt::Store(word, at, value) => match cell_number(arrays, word.as_slice(), index(at)) {
-            Some(cell) => Instruction::Write { cell, value: number(value) },
+            Some(cell) => Instruction::Write {
+                cell,
+                value: number(value),
+            },
             None => unreachable!(),
         },
         Stmt::Spawn(word, _) => match task_number(items, word.as_slice()) {
@@ -265,13 +266,24 @@ fn instruction_for(items: &[Item], arrays: &[CellArray], stmt: &Stmt) -> Instruc
             None => unreachable!(),
         },
         Stmt::Sync => Instruction::Sync,
-        Stmt::Return(value) => Instruction::Return { value: number(value) },
-        Stmt::Declare(_, _) | Stmt::Define(_, _, _) | Stmt::Assign(_, _) | Stmt::If(_, _, _) | Stmt::While(_, _) => unreachable!(),
+        Stmt::Return(value) => Instruction::Return {
+            value: number(value),
+        },
+        Stmt::Declare(_, _)
+        | Stmt::Define(_, _, _)
+        | Stmt::Assign(_, _)
+        | Stmt::If(_, _, _)
+        | Stmt::While(_, _) => unreachable!(),
     }
 }
 
 /// The instructions of a task.
-fn code_of(alloc: Global, items: &[Item], arrays: &[CellArray], body: &[Stmt]) -> Result<Items<Instruction>, NoMemory>
+fn code_of(
+    alloc: Global,
+    items: &[Item],
+    arrays: &[CellArray],
+    body: &[Stmt],
+) -> Result<Items<Instruction>, NoMemory>
     requires arrays { arrays.now ≡ arrays_from 0 (items_tree items.now) }
     requires fit { ArraysFit arrays.now }
     requires few { length (tasks_from (items_tree items.now)) < 2 ^ 32 }
@@ -286,7 +298,11 @@ fn code_of(alloc: Global, items: &[Item], arrays: &[CellArray], body: &[Stmt]) -
 }
 
 /// The instructions of each task.
-fn codes_of(alloc: Global, items: &[Item], arrays: &[CellArray]) -> Result<Items<Items<Instruction>>, NoMemory>
+fn codes_of(
+    alloc: Global,
+    items: &[Item],
+    arrays: &[CellArray],
+) -> Result<Items<Items<Instruction>>, NoMemory>
     requires arrays { arrays.now ≡ arrays_from 0 (items_tree items.now) }
     requires fit { ArraysFit arrays.now }
     requires few { length (tasks_from (items_tree items.now)) < 2 ^ 32 }

@@ -4,16 +4,9 @@
 #[derive(Clone, Copy, Debug)]
 pub enum Instruction {
     /// Writes a value to the cell of this number.
-    Write {
-        cell: u32,
-        value: i64,
-    },
+    Write { cell: u32, value: i64 },
     /// Spawns the task at this place of the text.
-    Spawn {
-        task: u32,
-    },
+    Spawn { task: u32 },
     Sync,
-    Return {
-        value: i64,
-    },
+    Return { value: i64 },
 }

@@ -1,5 +1,5 @@
 //! Laws of the machine, and a run worked out by hand.
-ghost use Rattle.task_machine.specs.Laws.{ChildrenComeLater, LeadsByParts, LeadsFurther, LeadsToOne, PrefixIsLegal, StandsAtOne, StandsOrGoesOn, StepIsOne, StrandsRise, StrandsWereMade};
+ghost use Rattle.task_machine.specs.Laws.{ActingTaskActs, ChildComes, ChildrenComeLater, LeadsByParts, LeadsFurther, LeadsToOne, OthersStay, PrefixIsLegal, StandsAtOne, StandsOrGoesOn, StepIsOne, StrandsRise, StrandsWereMade};
 ghost use Rattle.task_machine.specs.Rows.{CodeRow, NumberRow, SpawnRow};
 
 pub fn step_is_one()
@@ -52,4 +52,16 @@ pub fn number_row()
 
 pub fn code_row()
     ensures { CodeRow }
+{}
+
+pub fn acting_task()
+    ensures { ActingTaskActs }
+{}
+
+pub fn others_stay()
+    ensures { OthersStay }
+{}
+
+pub fn child_comes()
+    ensures { ChildComes }
 {}

@@ -7,4 +7,6 @@ pub mod instruction;
 pub mod laws;
 pub mod small;
 pub mod task;
+#[cfg(test)]
+mod tests;
 pub mod trace;

@@ -177,7 +177,9 @@ fn fits(items: &[Item], stmt: &Stmt) -> bool
     ensures { IsTrue result ↔ Fits (items_tree items.now) (stmt_tree stmt.now) }
 {
     match stmt {
-        Stmt::Store(word, index, value) => is_literal(index) && is_literal(value) && has_array(items, word.as_slice()),
+        Stmt::Store(word, index, value) => is_literal(index)
+            && is_literal(value)
+            && has_array(items, word.as_slice()),
         Stmt::Spawn(word, args) => args.is_empty() && has_task(items, word.as_slice()),
         Stmt::Sync => true,
         Stmt::Return(value) => is_literal(value),

@@ -16,20 +16,13 @@ use std::alloc::Global;
 use std::marker::Model;
 
 /// What a task wishes to do next.
-#[derive(Clone, Copy, Debug)]
+#[derive(Clone, Copy, Debug, PartialEq, Eq)]
 pub enum Wish {
-    Write {
-        cell: u32,
-        value: i64,
-    },
+    Write { cell: u32, value: i64 },
     /// To spawn the task at this place of the text.
-    Spawn {
-        which: u32,
-    },
+    Spawn { which: u32 },
     Sync,
-    End {
-        value: Value,
-    },
+    End { value: Value },
     /// It made as many local steps in a row as it may.
     Long,
 }
@@ -62,7 +55,13 @@ impl Model for Task {
 
 impl Task {
     /// The task of this number, which begins task `which` of the text.
-    pub fn start(alloc: Global, code: &Code, number: u32, which: u32, args: &Args) -> Result<Task, NoMemory>
+    pub fn start(
+        alloc: Global,
+        code: &Code,
+        number: u32,
+        which: u32,
+        args: &Args,
+    ) -> Result<Task, NoMemory>
         ensures begins { IfOk result (λ t. (t.number ≡ number) × (t.which ≡ which) × (t.spot.ended ≡ false) × (t.trace.items ≡ [])) }
         ensures state { IfOk result (λ t. (P : tree.Program) → IsCodeOf P code.now → IsTaskOf P code.now args.now.items t (start_state P which args.now.items)) }
     {
@@ -101,7 +100,10 @@ impl Task {
         if limit == 0 {
             return Wish::Long;
         }
-        wish_at(code.instruction(self.which, self.spot.next), self.spot.is_open)
+        wish_at(
+            code.instruction(self.which, self.spot.next),
+            self.spot.is_open,
+        )
     }
 
     /// The argument values of the spawn at which the task stands.

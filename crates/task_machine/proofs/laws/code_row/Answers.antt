@@ -1,4 +1,4 @@
-use Rattle.std.proofs.Common.{◌≡◌, [], ◌∷◌, inl, inr, refl, lit<, lit≤}
+use Rattle.std.proofs.Common.{inl, inr, refl, lit<, lit≤}
 use Rattle.std.specs.Prelude.{codes}
 use Rattle.fut_syntax.specs.Small.{IsSmall}
 use Rattle.task_machine.specs.Flat.{IsCodeOf}

@@ -4,7 +4,7 @@ use Rattle.std.specs.Prelude.{IsSomeAnd}
 use Rattle.fut_syntax.specs.declared.tree.Item.{Item}
 use Rattle.fut_syntax.specs.Small.{IsSmall, AreTasks}
 use Rattle.fut_syntax.specs.Views.{items_tree, program_tree}
-use Rattle.task_machine.proofs.Testing.{Parts, parts_of, small_of}
+use Rattle.task_machine.proofs.Testing.{parts_of, small_of}
 use Rattle.task_machine.proofs.small.small.Goals as goal
 
 read : (xs ys : List Item) → xs ≡ ys → IsSomeAnd (program_tree xs) IsSmall → IsSomeAnd (program_tree ys) IsSmall
@@ -15,10 +15,9 @@ behind xs h = subst (λ zs. AreTasks (items_tree zs)) (take_all (length xs - 1) 
 
 pub returns : goal.returns
 returns c =
-    let xs = c.as_slice-items.result.now in
-    (
+    let xs = c.as_slice-items.result.now in (
       λ t. read xs c.args.program.now.items c.as_slice-items.ensures (
-        small_of xs (
+          small_of xs (
           record {
             tasks = behind xs (c.if-not-are_tasks.ensures.0 refl);
             lengths = c.if-not-lengths_fit.ensures.0 refl;

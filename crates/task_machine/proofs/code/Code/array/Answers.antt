@@ -1,4 +1,4 @@
-use Rattle.std.proofs.Common.{◌≡◌, ap, ◌∙◌}
+use Rattle.std.proofs.Common.{ap, ◌∙◌}
 use Rattle.task_machine.specs.Flat.{Compiled}
 use Rattle.task_machine.proofs.Coding.{cell_not_passed}
 use Rattle.task_machine.proofs.code.Code.array.Goals as goal

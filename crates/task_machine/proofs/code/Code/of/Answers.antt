@@ -15,7 +15,7 @@ arrays_of-requires c = (made _ _ c.as_slice-items.ensures (small_can_be_made _ c
 
 pub codes_of-requires-clause-fit : goal.codes_of-requires-clause-fit
 codes_of-requires-clause-fit c =
-    subst ArraysFit (sym (c.as_slice.ensures ∙ c.in_ok-arrays.ensures )) (made _ _ c.as_slice-items.ensures (small_can_be_made _ c.requires)).arrays
+    subst ArraysFit (sym (c.as_slice.ensures ∙ c.in_ok-arrays.ensures)) (made _ _ c.as_slice-items.ensures (small_can_be_made _ c.requires)).arrays
 
 pub codes_of-requires-clause-few : goal.codes_of-requires-clause-few
 codes_of-requires-clause-few c = (made _ _ c.as_slice-items.ensures (small_can_be_made _ c.requires)).tasks
