@@ -1,5 +1,5 @@
 -- The tree that a value of the code is.
-use Rattle.std.specs.Prelude.{List, [], ◌∷◌, map, Option, Some, None}
+use Rattle.std.specs.Prelude.{ℕ, List, [], ◌∷◌, map, Option, Some, None}
 use Rattle.fut_syntax.specs.declared.tree.Sign.TheVariants as s
 use Rattle.fut_syntax.specs.declared.tree.Sign.{Sign}
 use Rattle.fut_syntax.specs.declared.tree.Operator.TheVariants as op
