@@ -1,10 +1,64 @@
-//! The program `forder`.
+//! The program `forder`: it runs a program of the task language, and reports its determinacy races.
+//!
+//! `forder` of the module `top` is the call that `main` makes. Its contract is the theorem.
 #![tactic(auto)]
 
 mod input;
+mod judge;
+mod outcome;
 mod pieces;
 mod run_text;
 mod serial;
+mod status;
+mod top;
 mod words;
 
-fn main() {}
+use crate::top::forder;
+use crate::status::{Ended, Status};
+use crate::words::Words;
+use fut_base::gate::FreeGate;
+use fut_base::standard::{StdSink, StdSource};
+use std::env;
+use std::env::Env;
+use std::io;
+use std::process::ExitCode;
+
+/// The words after the program's name.
+enum Given {
+    Words(Words),
+    /// Some word is not UTF-8.
+    Foreign,
+    NoMemory,
+}
+
+/// The words of the command line.
+fn words_of<R: Env + AllocGlobal>(rt: &R) -> Given {
+    let all = match env::args(rt) {
+        Ok(all) => all,
+        Err(error) => {
+            return match error.kind() {
+                io::ErrorKind::OutOfMemory => Given::NoMemory,
+                _ => Given::Foreign,
+            };
+        }
+    };
+    let mut words = Words::make(rt.alloc());
+    for word in all.skip(1) {
+        if words.push(word.as_str()).is_err() {
+            return Given::NoMemory;
+        }
+    }
+    Given::Words(words)
+}
+
+fn main(rt: HostRuntime) -> ExitCode {
+    let words = match words_of(&rt) {
+        Given::Words(words) => words,
+        Given::Foreign => Words::make(rt.alloc()),
+        Given::NoMemory => return ExitCode::from(Status::NoMemory.number()),
+    };
+    let mut source = StdSource::make(rt.stdin());
+    let mut out = StdSink::make(rt.stdout());
+    let Ended { status, .. } = forder(&rt, rt.alloc(), &words, &mut source, &mut out, &FreeGate);
+    ExitCode::from(status.number())
+}

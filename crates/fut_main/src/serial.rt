@@ -64,13 +64,13 @@ fn copy_of(alloc: Global, task: u32, strand: u32, act: &Act) -> Result<Entry, No
 }
 
 /// The task of the greatest number that has not ended.
-fn last_running(lines: &[Line]) -> Option<usize>
-    ensures { MatchOption result (HaveEnded lines.now) (λ t. IsLastRunning lines.now t) }
+fn last_running(run: &Progress) -> Option<usize>
+    ensures { MatchOption result (HaveEnded run.now.lines.items) (λ t. IsLastRunning run.now.lines.items t) }
 {
-    let mut left = lines.len();
+    let mut left = run.lines.len();
     while left > 0 {
         left -= 1;
-        if !lines[left].task.ended() {
+        if !run.lines[left].task.ended() {
             return Some(left);
         }
     }
@@ -241,23 +241,27 @@ fn sync(run: &mut Progress, alloc: Global, code: &Code, task: usize) -> Result<(
 }
 
 /// The run of a program's code, up to `bound` entries.
-pub fn run_serially(alloc: Global, code: &Code, bound: u32) -> Result<(History, Finish), NoMemory>
+pub fn run_serially(
+    alloc: Global,
+    code: &Code,
+    bound: u32,
+) -> Result<(History, Finish), NoMemory>
     requires program { (P : tree.Program) × IsCodeOf P code.now }
     requires bound { bound ≤ 1000000 }
-    ensures { IfOk result (λ r. (P : tree.Program) → IsCodeOf P code.now → EndsSo P bound (events_of r.0) r.1) }
+    ensures ends { IfOk result (λ r. (P : tree.Program) → IsCodeOf P code.now → EndsSo P bound (events_of r.0) r.1) }
+    ensures short { IfOk result (λ r. length r.0.items ≤ bound) }
 {
     let mut run = begin(alloc, code)?;
-    for _ in 0..bound {
-        match last_running(run.lines.as_slice()) {
+    for _made in 0..bound {
+        match last_running(&run) {
             Some(task) => step(&mut run, alloc, code, task)?,
             None => return Ok((run.history, Finish::Whole)),
         }
     }
-    let finish = match last_running(run.lines.as_slice()) {
-        Some(_) => Finish::Events { bound },
-        None => Finish::Whole,
-    };
-    Ok((run.history, finish))
+    match last_running(&run) {
+        Some(_) => Ok((run.history, Finish::Events { bound })),
+        None => Ok((run.history, Finish::Whole)),
+    }
 }
 
 /// The opening state.

@@ -5,8 +5,8 @@ use Rattle.fut_main.proofs.serial.last_running.Given as goal
 
 abbrev pub invariant-loop-left : goal.invariant-loop-left
 invariant-loop-left l = record {
-  within : l.left ≤ length l.lines;
-  ended : (i : ℕ) (line : Line) → l.left ≤ i → slice_get l.lines i ≡ Some line → line.task.spot.ended ≡ true;
+  within : l.left ≤ length l.run.lines.items;
+  ended : (i : ℕ) (line : Line) → l.left ≤ i → slice_get l.run.lines.items i ≡ Some line → line.task.spot.ended ≡ true;
 }
 
 abbrev pub decreases-loop-left : goal.decreases-loop-left

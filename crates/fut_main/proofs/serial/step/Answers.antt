@@ -1,4 +1,8 @@
 use Rattle.std.proofs.Common.{◌≡◌, ◌∙◌, sym, ap, refl, length}
+use mir.Val.{to_z, of_z}
+use Rattle.std.specs.Int.{w64}
+use Rattle.std.proofs.Common.{rules}
+use Rattle.std.proofs.lemmas.Int.{ints}
 use Rattle.fut_main.proofs.Steps.{on_ok, asked_of, write_keeps, end_keeps, sync_keeps, spawn_keeps, not_long}
 use Rattle.fut_main.proofs.serial.step.Goals as goal
 
@@ -10,7 +14,9 @@ unreachable-requires c =
 
 pub returns-in-Write-clause-keeps : goal.returns-in-Write-clause-keeps
 returns-in-Write-clause-keeps c =
-    on_ok _ _ _ (λ x. write_keeps c.args.code.now c.ask.new.run c.write.new.run c.args.task c.in-Write.cell c.in-Write.value c.ask.ensures.last (asked_of c.args.code.now c.args.run.now c.ask.new.run c.args.task _ _ c.in-Write.is c.requires.keeps c.ask.ensures.asks) x) c.write.ensures
+    let value = c.in-Write.value in
+    let same : to_z w64 (of_z w64 value) ≡ value = search (rules, ints) in
+    on_ok _ _ _ (λ x. write_keeps c.args.code.now c.ask.new.run c.write.new.run c.args.task c.in-Write.cell value c.ask.ensures.last (asked_of c.args.code.now c.args.run.now c.ask.new.run c.args.task _ _ c.in-Write.is c.requires.keeps c.ask.ensures.asks) x) (rw same at c.write.ensures)
 
 pub returns-in-End-clause-keeps : goal.returns-in-End-clause-keeps
 returns-in-End-clause-keeps c =

@@ -1,0 +1,48 @@
+//! What a call of forder answers.
+ghost use Rattle.std.specs.Prelude.{◌≡◌};
+
+use fut_base::record::{Finish, History};
+
+/// How a call ended.
+#[derive(Clone, Copy, Debug, PartialEq, Eq)]
+pub enum Status {
+    /// The run is whole and has no race.
+    Clean,
+    /// The run is whole and has a race.
+    Raced,
+    /// The run is not whole, and ended so.
+    Spent { finish: Finish },
+    /// A take of the source failed.
+    ReadFault,
+    /// A put of the sink failed.
+    WriteFault,
+    NoMemory,
+    /// The words have no form that forder knows.
+    Usage,
+    /// The text is none that forder runs.
+    Unbuilt,
+}
+
+impl Status {
+    /// The number with which the program ends.
+    pub fn number(self) -> u8 {
+        match self {
+            Status::Clean => 0,
+            Status::Raced => 1,
+            Status::Spent { .. } => 4,
+            Status::ReadFault => 6,
+            Status::WriteFault => 7,
+            Status::NoMemory => 8,
+            Status::Usage => 9,
+            Status::Unbuilt => 11,
+        }
+    }
+}
+
+/// What a call answers: how it ended, and the history of the run that it made. Where it made no run, the history is
+/// empty.
+#[derive(Drop)]
+pub struct Ended {
+    pub status: Status,
+    pub history: History,
+}
