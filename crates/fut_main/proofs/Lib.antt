@@ -1,4 +1,5 @@
 pub mod Consuming
+pub mod Endings
 pub mod Feeding
 pub mod Lines
 pub mod PieceLemmas

@@ -10,6 +10,8 @@ mod pieces;
 mod run_text;
 mod serial;
 mod status;
+#[cfg(test)]
+mod tests;
 mod top;
 mod words;
 

@@ -73,12 +73,12 @@ fn run_program(alloc: Global, program: &Program) -> Result<Outcome, NoMemory>
     ensures { IfOk result (λ o. IfSome (program_tree program.now.items) (λ P. EndsIn P o.status (events_of o.history) o.races.items)) }
 {
     let code = Code::of(alloc, program)?;
-    let (history, finish) = run_serially(alloc, &code, BOUND)?;
-    let races = found_of(alloc, &history)?;
-    let status = ending(finish, &races);
+    let run = run_serially(alloc, &code, BOUND)?;
+    let races = found_of(alloc, &run.history)?;
+    let status = ending(run.finish, &races);
     Ok(Outcome {
         status,
-        history,
+        history: run.history,
         races,
     })
 }

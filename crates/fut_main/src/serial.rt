@@ -31,6 +31,13 @@ pub struct Progress {
     pub strands: u32,
 }
 
+/// A run that came to its end.
+#[derive(Drop)]
+pub struct Finished {
+    pub history: History,
+    pub finish: Finish,
+}
+
 /// An equal entry.
 fn copy_of(alloc: Global, task: u32, strand: u32, act: &Act) -> Result<Entry, NoMemory>
     ensures { IfOk result (λ e. (event_of e).task ≡ task × (event_of e).strand ≡ strand × action_of e.act ≡ action_of act.now) }
@@ -245,22 +252,22 @@ pub fn run_serially(
     alloc: Global,
     code: &Code,
     bound: u32,
-) -> Result<(History, Finish), NoMemory>
+) -> Result<Finished, NoMemory>
     requires program { (P : tree.Program) × IsCodeOf P code.now }
     requires bound { bound ≤ 1000000 }
-    ensures ends { IfOk result (λ r. (P : tree.Program) → IsCodeOf P code.now → EndsSo P bound (events_of r.0) r.1) }
-    ensures short { IfOk result (λ r. length r.0.items ≤ bound) }
+    ensures ends { IfOk result (λ r. (P : tree.Program) → IsCodeOf P code.now → EndsSo P bound (events_of r.history) r.finish) }
+    ensures short { IfOk result (λ r. length r.history.items ≤ bound) }
 {
     let mut run = begin(alloc, code)?;
     for _made in 0..bound {
         match last_running(&run) {
             Some(task) => step(&mut run, alloc, code, task)?,
-            None => return Ok((run.history, Finish::Whole)),
+            None => return Ok(Finished { history: run.history, finish: Finish::Whole }),
         }
     }
     match last_running(&run) {
-        Some(_) => Ok((run.history, Finish::Events { bound })),
-        None => Ok((run.history, Finish::Whole)),
+        Some(_) => Ok(Finished { history: run.history, finish: Finish::Events { bound } }),
+        None => Ok(Finished { history: run.history, finish: Finish::Whole }),
     }
 }
 

@@ -1,0 +1,163 @@
+//! Worked runs, by the call that `main` makes.
+use crate::status::{Ended, Status};
+use crate::top::forder;
+use crate::words::Words;
+use fut_base::gate::FreeGate;
+use fut_base::memory::{MemSink, MemSource};
+use fut_base::record::Finish;
+use std::alloc::Global;
+use std::test::Fail;
+
+/// The words of the one form.
+const RUN: [&str; 3] = ["run", "--workers", "1"];
+
+/// A child writes, and its parent before it waits.
+const RACE: &str = "cells a[1];\ntask kid() int { a[0] = 1; return 0; }\ntask main() int { spawn kid(); a[0] = 2; sync; return 0; }\n";
+
+/// The same, and the parent waits first.
+const SYNC: &str = "cells a[1];\ntask kid() int { a[0] = 1; return 0; }\ntask main() int { spawn kid(); sync; a[0] = 2; return 0; }\n";
+
+const RACE_RECORD: &str = "forder 1\nprogram 110\ncells a[1];\ntask kid() int { a[0] = 1; return 0; }\ntask main() int { spawn kid(); a[0] = 2; sync; return 0; }\n\nentries 6\n0 t0 s0 spawn 0 t1 s1 s2\n1 t1 s1 write 0 1\n2 t1 s1 end 0\n3 t0 s2 write 0 2\n4 t0 s2 sync s3\n5 t0 s3 end 0\nraces 1\nrace 0 1 3\nfinish whole\nend\n";
+
+const SYNC_RECORD: &str = "forder 1\nprogram 110\ncells a[1];\ntask kid() int { a[0] = 1; return 0; }\ntask main() int { spawn kid(); sync; a[0] = 2; return 0; }\n\nentries 6\n0 t0 s0 spawn 0 t1 s1 s2\n1 t1 s1 write 0 1\n2 t1 s1 end 0\n3 t0 s2 sync s3\n4 t0 s3 write 0 2\n5 t0 s3 end 0\nraces 0\nfinish whole\nend\n";
+
+const ONE_RECORD: &str = "forder 1\nprogram 29\ntask main() int { return 0; }\nentries 1\n0 t0 s0 end 0\nraces 0\nfinish whole\nend\n";
+
+/// What came of a call.
+#[derive(Drop)]
+struct Answer {
+    status: Status,
+    text: Vec<u8>,
+    entries: usize,
+}
+
+/// Calls forder over a source and a sink in memory that give and take so much a call and fail at these calls.
+fn answer(
+    alloc: Global,
+    words: &[&str],
+    text: &str,
+    most: usize,
+    take_fails: &[u64],
+    put_fails: &[u64],
+) -> Result<Answer, Fail> {
+    let mut given = Words::make(alloc);
+    for word in words {
+        given.push(word)?;
+    }
+    let mut source = MemSource::make(alloc, text.as_bytes(), most.max(1), take_fails)?;
+    let mut out = MemSink::make(alloc, 1_000_000, most.max(1), put_fails)?;
+    let Ended { status, history } =
+        forder(&(), alloc, &given, &mut source, &mut out, &FreeGate);
+    let text = Vec::from_slice(alloc, out.bytes())?;
+    Ok(Answer {
+        status,
+        text,
+        entries: history.len(),
+    })
+}
+
+/// A run of a text with nothing in its way.
+fn run(alloc: Global, text: &str) -> Result<Answer, Fail> {
+    answer(alloc, &RUN, text, 4096, &[], &[])
+}
+
+#[test]
+fn records_of_runs(rt: HostRuntime) -> Result<(), Fail> {
+    let cases = [
+        ("task main() int { return 0; }", Status::Clean, ONE_RECORD),
+        (RACE, Status::Raced, RACE_RECORD),
+        (SYNC, Status::Clean, SYNC_RECORD),
+        ("task main() int { return 1 + 1; }", Status::Unbuilt, "not built\n"),
+        ("task main() int { return 0; } // a comment", Status::Unbuilt, "not built\n"),
+        ("task main() int { retrun 0; }", Status::Unbuilt, "not built\n"),
+        ("", Status::Unbuilt, "not built\n"),
+    ];
+    for (text, status, record) in cases {
+        let answer = run(rt.alloc(), text)?;
+        assert_eq!(rt; answer.status, status, "{text}");
+        assert_eq!(rt; answer.text.as_slice(), record.as_bytes(), "{text}");
+    }
+    Ok(())
+}
+
+#[test]
+fn other_words_read_nothing(rt: HostRuntime) -> Result<(), Fail> {
+    let usage = "usage: forder run, serial, replay, check or load\n";
+    let cases: [&[&str]; 5] = [
+        &[],
+        &["run"],
+        &["run", "--workers", "0"],
+        &["run", "--workers=1"],
+        &["run", "--workers", "1", "1"],
+    ];
+    for words in cases {
+        // the source fails at its first call, and the answer shows that there was none
+        let answer = answer(rt.alloc(), words, RACE, 16, &[0], &[])?;
+        assert_eq!(rt; answer.status, Status::Usage);
+        assert_eq!(rt; answer.text.as_slice(), usage.as_bytes());
+        assert_eq!(rt; answer.entries, 0);
+    }
+    Ok(())
+}
+
+#[test]
+fn a_source_that_fails(rt: HostRuntime) -> Result<(), Fail> {
+    // 110 bytes by 16 a call: seven calls, and one more that answers the end
+    for call in 0..8 {
+        let answer = answer(rt.alloc(), &RUN, RACE, 16, &[call], &[])?;
+        assert_eq!(rt; answer.status, Status::ReadFault, "call {call}");
+        assert_eq!(rt; answer.text.as_slice(), b"read fault\n".as_slice());
+        assert_eq!(rt; answer.entries, 0);
+    }
+    let answer = answer(rt.alloc(), &RUN, RACE, 16, &[8], &[])?;
+    assert_eq!(rt; answer.status, Status::Raced);
+    Ok(())
+}
+
+#[test]
+fn a_sink_that_fails(rt: HostRuntime) -> Result<(), Fail> {
+    for call in 0..20 {
+        let answer = answer(rt.alloc(), &RUN, RACE, 16, &[], &[call])?;
+        assert_eq!(rt; answer.status, Status::WriteFault, "call {call}");
+        assert_eq!(rt; answer.entries, 6);
+        assert!(rt; RACE_RECORD.as_bytes().starts_with(answer.text.as_slice()), "call {call}");
+    }
+    // the head `forder 1`, `program ` is one piece of 17 bytes
+    let answer = answer(rt.alloc(), &RUN, RACE, 16, &[], &[1])?;
+    assert_eq!(rt; answer.text.as_slice(), b"forder 1\nprogram".as_slice());
+    Ok(())
+}
+
+#[test]
+fn a_run_that_is_spent(rt: HostRuntime) -> Result<(), Fail> {
+    let alloc = rt.alloc();
+    let text = "task main() int { spawn main(); return 0; }";
+    let mut record = String::from_str(alloc, "forder 1\nprogram 43\n")?;
+    record.push_str(text)?;
+    record.push_str("\nentries 1000\n0 t0 s0 spawn 0 t1 s1 s2\n")?;
+    for k in 1u64..1000 {
+        let line = format!(in alloc; "{k} t{k} s{} spawn 0 t{} s{} s{}\n", 2 * k - 1, k + 1, 2 * k + 1, 2 * k + 2)?;
+        record.push_str(line.as_str())?;
+    }
+    record.push_str("races 0\nfinish events 1000\nend\n")?;
+    let answer = run(alloc, text)?;
+    assert_eq!(rt; answer.status, Status::Spent { finish: Finish::Events { bound: 1000 } });
+    assert_eq!(rt; answer.entries, 1000);
+    assert_eq!(rt; answer.text.as_slice(), record.as_bytes());
+    Ok(())
+}
+
+#[test]
+fn the_longest_text(rt: HostRuntime) -> Result<(), Fail> {
+    let alloc = rt.alloc();
+    let mut text = String::from_str(alloc, "task main() int { return 0; }")?;
+    while text.len() < 4096 {
+        text.push_str(" ")?;
+    }
+    let answer = run(alloc, text.as_str())?;
+    assert_eq!(rt; answer.status, Status::Clean);
+    text.push_str(" ")?;
+    let answer = run(alloc, text.as_str())?;
+    assert_eq!(rt; answer.status, Status::Unbuilt);
+    Ok(())
+}
