@@ -1,4 +1,5 @@
 pub mod Due
+pub mod Numbers
 pub mod Outcomes
 pub mod Pieces
 pub mod Reading

@@ -1,6 +1,4 @@
 //! What a call of forder answers.
-ghost use Rattle.std.specs.Prelude.{◌≡◌};
-
 use fut_base::record::{Finish, History};
 
 /// How a call ended.
@@ -24,8 +22,13 @@ pub enum Status {
 }
 
 impl Status {
+    ghost use Rattle.std.specs.Prelude.{◌≡◌};
+    ghost use Rattle.fut_main.specs.Numbers.{status_number};
+
     /// The number with which the program ends.
-    pub fn number(self) -> u8 {
+    pub fn number(self) -> u8
+        ensures { result ≡ status_number self }
+    {
         match self {
             Status::Clean => 0,
             Status::Raced => 1,

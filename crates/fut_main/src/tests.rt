@@ -32,7 +32,7 @@ struct Answer {
 }
 
 /// Calls forder over a source and a sink in memory that give and take so much a call and fail at these calls.
-fn answer(
+fn call_forder(
     alloc: Global,
     words: &[&str],
     text: &str,
@@ -58,7 +58,7 @@ fn answer(
 
 /// A run of a text with nothing in its way.
 fn run(alloc: Global, text: &str) -> Result<Answer, Fail> {
-    answer(alloc, &RUN, text, 4096, &[], &[])
+    call_forder(alloc, &RUN, text, 4096, &[], &[])
 }
 
 #[test]
@@ -92,7 +92,7 @@ fn other_words_read_nothing(rt: HostRuntime) -> Result<(), Fail> {
     ];
     for words in cases {
         // the source fails at its first call, and the answer shows that there was none
-        let answer = answer(rt.alloc(), words, RACE, 16, &[0], &[])?;
+        let answer = call_forder(rt.alloc(), words, RACE, 16, &[0], &[])?;
         assert_eq!(rt; answer.status, Status::Usage);
         assert_eq!(rt; answer.text.as_slice(), usage.as_bytes());
         assert_eq!(rt; answer.entries, 0);
@@ -104,12 +104,12 @@ fn other_words_read_nothing(rt: HostRuntime) -> Result<(), Fail> {
 fn a_source_that_fails(rt: HostRuntime) -> Result<(), Fail> {
     // 110 bytes by 16 a call: seven calls, and one more that answers the end
     for call in 0..8 {
-        let answer = answer(rt.alloc(), &RUN, RACE, 16, &[call], &[])?;
+        let answer = call_forder(rt.alloc(), &RUN, RACE, 16, &[call], &[])?;
         assert_eq!(rt; answer.status, Status::ReadFault, "call {call}");
         assert_eq!(rt; answer.text.as_slice(), b"read fault\n".as_slice());
         assert_eq!(rt; answer.entries, 0);
     }
-    let answer = answer(rt.alloc(), &RUN, RACE, 16, &[8], &[])?;
+    let answer = call_forder(rt.alloc(), &RUN, RACE, 16, &[8], &[])?;
     assert_eq!(rt; answer.status, Status::Raced);
     Ok(())
 }
@@ -117,13 +117,13 @@ fn a_source_that_fails(rt: HostRuntime) -> Result<(), Fail> {
 #[test]
 fn a_sink_that_fails(rt: HostRuntime) -> Result<(), Fail> {
     for call in 0..20 {
-        let answer = answer(rt.alloc(), &RUN, RACE, 16, &[], &[call])?;
+        let answer = call_forder(rt.alloc(), &RUN, RACE, 16, &[], &[call])?;
         assert_eq!(rt; answer.status, Status::WriteFault, "call {call}");
         assert_eq!(rt; answer.entries, 6);
         assert!(rt; RACE_RECORD.as_bytes().starts_with(answer.text.as_slice()), "call {call}");
     }
     // the head `forder 1`, `program ` is one piece of 17 bytes
-    let answer = answer(rt.alloc(), &RUN, RACE, 16, &[], &[1])?;
+    let answer = call_forder(rt.alloc(), &RUN, RACE, 16, &[], &[1])?;
     assert_eq!(rt; answer.text.as_slice(), b"forder 1\nprogram".as_slice());
     Ok(())
 }
