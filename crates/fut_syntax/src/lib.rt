@@ -18,6 +18,8 @@ pub mod parser;
 #[cfg(test)]
 mod parser_tests;
 mod printing;
+#[cfg(test)]
+mod printing_tests;
 mod program;
 mod scan;
 mod signs;
