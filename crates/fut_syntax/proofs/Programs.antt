@@ -1,7 +1,6 @@
 -- Texts have one tree at most, and none where they have a fault place. A tree's canonical text has this tree.
 use Rattle.std.proofs.Common.{◌≡◌, ℕ, false, List, [], ◌∷◌, map, sym, ap, ◌∙◌, subst, Result, Ok, Err}
 use Rattle.std.specs.Prelude.{Some}
-use Rattle.fut_syntax.specs.declared.token.Token.{Token}
 use Rattle.fut_syntax.specs.declared.token.Place.{Place}
 use Rattle.fut_syntax.specs.Trees.{Item, CellsOf, TaskOf, Program}
 use Rattle.fut_syntax.specs.Faults.{IsFault}
