@@ -57,6 +57,16 @@ impl<T> Listing<T> {
         }
     }
 
+    /// The list of these items, which has no room for more.
+    pub fn from_vec(items: Vec<T>) -> Listing<T>
+        ensures { result ≡ record { items = items.items; spare = 0 } }
+    {
+        Listing {
+            held: items,
+            free: 0,
+        }
+    }
+
     /// Makes room for one more item at least.
     pub fn reserve(&mut self) -> Result<(), NoMemory>
         ensures items { self.new.items ≡ self.old.items }

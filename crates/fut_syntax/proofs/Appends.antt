@@ -4,7 +4,8 @@ use Rattle.fut_syntax.specs.declared.token.Token.{Token}
 use Rattle.fut_syntax.specs.declared.token.Token.TheVariants as t
 use Rattle.fut_syntax.specs.Trees.{Sign, NoSign, Negative, Inverted, Expr, Alone, Pair, Operand, Signed, Primary, Literal, Name, Bracket, Init, GetOf, CreateOf, Index, Value, VarType, Plain, Array, Stmt, Declare, Define, Assign, Store, SpawnOf, SyncAll, If', While', Return', Block, Done, Then, Tail, NoElse, ElseOf, Param, Item, CellsOf, TaskOf, Program}
 use Rattle.fut_syntax.specs.Tokens.{op_token, sign_before, expr_before, operand_before, primary_before, more_before, args_before, init_before, type_before, var_type_before, stmt_before, block_before, tail_before, param_before, more_params_before, params_before, item_before, items_before, program_tokens}
-use Rattle.fut_syntax.specs.Lines.{item_tokens, program_lines, lines_ended}
+use Rattle.fut_syntax.specs.Lines.{item_tokens, program_lines}
+use Rattle.fut_syntax.specs.Spelling.{tokens_in_lines}
 
 -- spelling in front of others comes to the same as adding the others
 abbrev Appends : (List Token → List Token) → Type 0
@@ -97,10 +98,10 @@ item_appends (TaskOf w ps d b) r s =
     (ap (λ q. params_before ps q) (ap (λ q. type_before d (t.LeftBrace ∷ q)) (block_appends b r s) ∙ type_appends d (t.LeftBrace ∷ block_before b r) s)
     ∙ params_appends ps (type_before d (t.LeftBrace ∷ block_before b r)) s)
 
-items_ended : (is : List Item) → items_before is [] ≡ lines_ended (map item_tokens is)
+items_ended : (is : List Item) → items_before is [] ≡ tokens_in_lines (map item_tokens is)
 items_ended [] = refl
-items_ended (i ∷ is) = ap (λ q. item_before i q) (items_ended is) ∙ item_appends i [] (lines_ended (map item_tokens is))
+items_ended (i ∷ is) = ap (λ q. item_before i q) (items_ended is) ∙ item_appends i [] (tokens_in_lines (map item_tokens is))
 
 -- the lines of a program have its tokens
-pub program_ended : (p : Program) → lines_ended (program_lines p) ≡ program_tokens p
-program_ended p = sym (ap (λ q. item_before p.first q) (items_ended p.others) ∙ item_appends p.first [] (lines_ended (map item_tokens p.others)))
+pub program_ended : (p : Program) → tokens_in_lines (program_lines p) ≡ program_tokens p
+program_ended p = sym (ap (λ q. item_before p.first q) (items_ended p.others) ∙ item_appends p.first [] (tokens_in_lines (map item_tokens p.others)))

@@ -8,8 +8,9 @@ use Rattle.fut_syntax.specs.declared.token.Token.TheVariants as t
 use Rattle.fut_syntax.specs.declared.token.Place.{Place}
 use Rattle.fut_syntax.specs.declared.kind.Mark.TheVariants.{Alone, Paired}
 use Rattle.fut_syntax.specs.Cut.{Class, Letter, Digit, Blank, Other, class_of, mark_of, is_blank, is_word, is_digit, word_token, number_token, token_by, token_of, IsLongest, starts_comment, Piece, Space, Comment, Lexeme, IsCut}
-use Rattle.fut_syntax.specs.Lexed.{tokens_of, places_of, IsTokensOf}
+use Rattle.fut_syntax.specs.Lexed.{tokens_of, places_of, IsTokensOf, has_comment, HasComments}
 use Rattle.fut_syntax.specs.Spelling.{spelling, Spaced, spaced, ended_tokens, IsReadable, AreReadable, AreBlank, is_scrap, has_scrap, line_of, lines_of, tokens_in_lines, HaveTokens}
+use Rattle.fut_syntax.proofs.Cuts.{cut_once}
 use Rattle.fut_syntax.proofs.Longest.{each_not}
 use Rattle.fut_syntax.proofs.Spelled.{readable}
 
@@ -88,6 +89,13 @@ are (s ∷ ss) = ap (λ q. s.token ∷ q) (are ss)
 pub spaced_reads : (ss : List Spaced) → AreReadable ss → AreBlank ss → (places : List Place) × IsTokensOf (spaced ss) (ended_tokens ss) places
 spaced_reads ss h k = (places_of [] (pieces ss), record { pieces = pieces ss; cut = cut ss h k; are = are ss; stand = refl })
 
+no_comments : (ss : List Spaced) → has_comment (pieces ss) ≡ false
+no_comments [] = refl
+no_comments (s ∷ ss) = no_comments ss
+
+spaced_plain : (ss : List Spaced) → AreReadable ss → AreBlank ss → HasComments (spaced ss) false
+spaced_plain ss h k ps c = ap has_comment (cut_once ps (pieces ss) (spaced ss) c (cut ss h k)) ∙ no_comments ss
+
 some_ended : (ss : List Spaced) → ended_tokens ss ≡ [] → ⊥
 some_ended [] e = absurd (cc)
 some_ended (s ∷ ss) e = absurd (cc)
@@ -156,3 +164,9 @@ lines_blank ((x ∷ xs) ∷ lines) = rest_blank x xs (spaced_lines lines) (lines
 pub lines_read : (bytes : List ℕ) (xs : List Token) (places : List Place) → IsTokensOf bytes xs places → has_scrap xs ≡ false → (lines : List (List Token)) → tokens_in_lines lines ≡ xs → HaveTokens lines → (again : List Place) × IsTokensOf (lines_of lines) xs again
 lines_read bytes xs places f n lines e h =
     subst (λ (q : List ℕ). (again : List Place) × IsTokensOf q xs again) (lines_are lines h) (respaced_reads bytes xs places f n (spaced_lines lines) (lines_tokens lines ∙ e) (lines_blank lines))
+
+-- there is no comment in lines of the tokens of a text
+pub lines_plain : (bytes : List ℕ) (xs : List Token) (places : List Place) → IsTokensOf bytes xs places → has_scrap xs ≡ false → (lines : List (List Token)) → tokens_in_lines lines ≡ xs → HaveTokens lines → HasComments (lines_of lines) false
+lines_plain bytes xs places f n lines e h =
+    let k = are_readable f.pieces bytes (spaced_lines lines) f.cut (lines_tokens lines ∙ e ∙ f.are) (ap has_scrap (sym f.are) ∙ n) in
+    subst (λ (q : List ℕ). HasComments q false) (lines_are lines h) (spaced_plain (spaced_lines lines) k (lines_blank lines))

@@ -8,7 +8,8 @@ use Rattle.fut_syntax.specs.declared.parser.TokenFault.TheVariants as fault
 use Rattle.fut_syntax.specs.Trees.{Program}
 use Rattle.fut_syntax.specs.Tokens.{program_tokens}
 use Rattle.fut_syntax.specs.Views.{program_tree}
-use Rattle.fut_syntax.specs.Lines.{program_lines, lines_ended, has_scrap}
+use Rattle.fut_syntax.specs.Lines.{program_lines}
+use Rattle.fut_syntax.specs.Spelling.{tokens_in_lines, has_scrap}
 use Rattle.fut_syntax.specs.Machine.{Symbol, First, walk, run64}
 use Rattle.fut_syntax.specs.Ended.{IsEnded}
 use Rattle.fut_syntax.specs.Faults.{IsBegun, IsFault, IsWhole}
@@ -40,7 +41,7 @@ EitherOne = (xs : List Token) → IsEnded xs → ((p : Program) × IsWhole xs p)
 
 -- the lines of a program have its tokens
 abbrev pub LinesSpell : Type 0
-LinesSpell = (p : Program) → lines_ended (program_lines p) ≡ program_tokens p
+LinesSpell = (p : Program) → tokens_in_lines (program_lines p) ≡ program_tokens p
 
 -- no program has a scrap
 abbrev pub NoScrap : Type 0

@@ -4,11 +4,13 @@ use Rattle.fut_syntax.specs.declared.token.Token.{Token}
 use Rattle.fut_syntax.specs.declared.token.Place.{Place}
 use Rattle.fut_syntax.specs.declared.program.ParseFault.{ParseFault}
 use Rattle.fut_syntax.specs.declared.program.ParseFault.TheVariants as fault
+use Rattle.fut_syntax.specs.declared.tree.Item.{Item}
 use Rattle.fut_syntax.specs.declared.tree.Program as declared
 use Rattle.fut_syntax.specs.Trees as trees
 use Rattle.fut_syntax.specs.Views.{program_tree}
 use Rattle.fut_syntax.specs.Lexed.{IsTokensOf, HasComments}
 use Rattle.fut_syntax.specs.Faults.{IsWhole, IsFault}
+use Rattle.fut_syntax.specs.Lines.{canonical_text}
 
 -- the tokens of a text are those of a program, and no bracket opens where 64 are open
 pub record IsProgram (bytes : List ℕ) (P : trees.Program) : Type 0 where
@@ -35,3 +37,7 @@ abbrev pub Parses : List ℕ → Result declared.Program ParseFault → Type 0
 Parses bytes (Ok p) = ((P : trees.Program) × (program_tree p.items ≡ Some P) × IsProgram bytes P) × ArePlacesOf bytes p.places × HasComments bytes p.comments
 Parses bytes (Err (fault.Syntax line column)) = IsFaultPlace bytes (record { line = line; column = column })
 Parses bytes (Err fault.NoMemory) = Unit {0}
+
+-- these bytes are the canonical text of the tree of some items
+abbrev pub Prints : List Item → List ℕ → Type 0
+Prints is bytes = (P : trees.Program) → program_tree is ≡ Some P → bytes ≡ canonical_text P

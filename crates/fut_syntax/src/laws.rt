@@ -1,5 +1,5 @@
 //! Laws over the grammar and its fault places.
-ghost use Rattle.fut_syntax.specs.TextLaws.{OneProgram, NoFaultyProgram};
+ghost use Rattle.fut_syntax.specs.TextLaws.{OneProgram, NoFaultyProgram, PrintedReads, ParsesAgain};
 ghost use Rattle.fut_syntax.specs.Laws.{Completions, StopIsFault, OneTree, OneFault, NoFault, EitherOne, LinesSpell, NoScrap, ReadsAgain, SecondOperator};
 
 /// What the grammar's machine goes through is the beginning of a program.
@@ -60,4 +60,14 @@ pub fn one_program()
 /// A text with a fault place is no program.
 pub fn no_faulty_program()
     ensures { NoFaultyProgram }
+{}
+
+/// The canonical text of a program is a text of this program, and has no comment.
+pub fn printed_reads()
+    ensures { PrintedReads }
+{}
+
+/// What reading the canonical text of a program gives is this program, unless memory runs out.
+pub fn parses_again()
+    ensures { ParsesAgain }
 {}

@@ -14,11 +14,14 @@ mod lexer;
 mod lexer_laws;
 #[cfg(test)]
 mod lexer_tests;
-mod program;
 pub mod parser;
-mod scan;
 #[cfg(test)]
 mod parser_tests;
+mod printing;
+#[cfg(test)]
+mod printing_tests;
+mod program;
+mod scan;
 mod signs;
 mod spelling;
 mod stmts;
@@ -33,5 +36,6 @@ pub use lexer::{Lexed, tokens};
 pub use lexer_laws::{
     every_text, lines_read, one_cut, one_token_list, respaced_reads, spaced_reads,
 };
+pub use printing::print;
 pub use program::{ParseFault, parse};
 pub use spelling::{fixed_spelling, push_line, push_token};
