@@ -1,0 +1,14 @@
+use Rattle.std.proofs.Common.{◌≡◌, ℕ, ◌^◌, ◌<◌, length, subst, arith}
+use Rattle.order_list.specs.Ordered.{Ordered, IsNumbered}
+use Rattle.order_list.proofs.Inserting.{numbered}
+use Rattle.order_list.proofs.list.OrderList.relabel.Goals as goal
+
+pub returns-clause-few : goal.returns-clause-few
+returns-clause-few c =
+    let P : Ordered → Type 0 = λ v. length v.order < 2 ^ 32 in
+    subst P c.self.view_is (omega (arith, c.self.invariant.0.count, c.self.invariant.3, c.self.inside.nexts.ok.0))
+
+pub returns-clause-numbered : goal.returns-clause-numbered
+returns-clause-numbered c =
+    let P : Ordered → Type 0 = λ v. IsNumbered v.order in
+    subst P c.self.view_is (numbered c.self.inside.labels.items c.self.inside.nexts.items _ c.self.invariant.0)
