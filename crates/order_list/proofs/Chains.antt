@@ -1,6 +1,6 @@
 -- Lists whose labels rise, and chains.
 use Rattle.std.proofs.Common.{◌≡◌, ℕ, ◌<◌, ◌≤◌, Bool, true, false, List, [], ◌∷◌, ◌⊎◌, inl, inr, length, get_or, sym, ◌∙◌, subst, refl, ap, arith}
-use Rattle.std.specs.Prelude.{Option, None, ◌==◌, not, ◌&&◌, ◌||◌, nat_lt, slice_index}
+use Rattle.std.specs.Prelude.{Option, None, ◌==◌, nat_lt, slice_index}
 use Rattle.std.proofs.lemmas.Bool.Decides.{nat_tests}
 use Rattle.std.proofs.lemmas.List.{get_or_read}
 use Rattle.order_list.specs.Ordered.{is_in, stands_before, next_of}

@@ -1,6 +1,5 @@
 -- Where a new item finds its label, and which labels a relabelling gives.
 use Rattle.std.specs.Prelude.{◌≡◌, ℕ, ◌+◌, ◌-◌, ◌*◌, ◌/◌, ◌^◌, nat_lt, if◌then◌else◌, List, [], ◌∷◌, ◌++◌, length, slice_index, unwrap_or}
-use Rattle.order_list.specs.declared.item.Item.{Item}
 use Rattle.order_list.specs.declared.place.Window.{Window}
 use Rattle.order_list.specs.declared.place.Place.{Place}
 use Rattle.order_list.specs.declared.place.Place.TheVariants.{Label, Relabel}

@@ -1,4 +1,4 @@
-use Rattle.std.proofs.Common.{◌≡◌, ℕ, ◌^◌, ◌<◌, length, subst, arith}
+use Rattle.std.proofs.Common.{◌^◌, ◌<◌, length, subst, arith}
 use Rattle.order_list.specs.Ordered.{Ordered, IsNumbered}
 use Rattle.order_list.proofs.Inserting.{numbered}
 use Rattle.order_list.proofs.list.OrderList.relabel.Goals as goal

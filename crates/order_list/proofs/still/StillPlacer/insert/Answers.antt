@@ -1,4 +1,4 @@
-use Rattle.std.proofs.Common.{◌≡◌, ◌+◌, ◌<◌, ◌≤◌, length, arith, sym, subst}
+use Rattle.std.proofs.Common.{◌<◌, length, arith, sym, subst}
 use Rattle.order_list.specs.Sides.{Lists}
 use Rattle.order_list.proofs.Inserting.{grown_by_one}
 use Rattle.order_list.proofs.still.StillPlacer.insert.Goals as goal
