@@ -3,8 +3,8 @@ use Rattle.std.proofs.Common.{◌≡◌, ℕ, ◌<◌, ◌≤◌, Bool, true, fa
 use Rattle.std.specs.Prelude.{Option, None, ◌==◌, nat_lt, slice_index}
 use Rattle.std.proofs.lemmas.Bool.Decides.{nat_tests}
 use Rattle.std.proofs.lemmas.List.{get_or_read}
-use Rattle.order_list.specs.Ordered.{is_in, stands_before, next_of}
-use Rattle.order_list.specs.Chain.{Linked, Rises, Keeps}
+use Rattle.order_list.specs.Ordered.{Rises, is_in, stands_before, next_of}
+use Rattle.order_list.specs.Chain.{Linked, Keeps}
 
 pub tested : (b : Bool) → (b ≡ true) ⊎ (b ≡ false)
 tested true = inl refl

@@ -5,8 +5,8 @@ use Rattle.std.proofs.Math.ListN.{length-set, get_or-append}
 use Rattle.std.proofs.Math.Seq.{get_or-append_seam}
 use Rattle.std.proofs.lemmas.Bool.Decides.{nat_tests}
 use Rattle.order_list.specs.Ordered.{put_after, is_in, next_of, high_by}
-use Rattle.order_list.specs.Chain.{walk, Linked, Rises, Keeps}
-use Rattle.order_list.specs.Ordered.{AllBelow, IsNumbered}
+use Rattle.order_list.specs.Chain.{walk, Linked, Keeps}
+use Rattle.order_list.specs.Ordered.{AllBelow, IsNumbered, IsKept, Rises}
 use Rattle.order_list.proofs.Chains.{tested, eq_of, later_above, kept_next}
 
 -- an item does not come again behind itself
@@ -136,6 +136,11 @@ walk_is nexts (suc n) (y ∷ ys) z l le = rw l.0 (ap (λ r. z ∷ r) (walk_is ne
 pub numbered : (labels : List ℕ) (nexts : List (Option ℕ)) (order : List ℕ) → Keeps labels nexts order → IsNumbered order
 numbered labels nexts order k =
     record { below = subst (λ n. AllBelow n order) (sym k.count) k.below; whole = λ x lt. k.whole x (omega (arith, lt, k.count)) }
+
+-- what the fields keep, as the value shows it
+pub kept : (labels : List ℕ) (nexts : List (Option ℕ)) (order : List ℕ) (room : ℕ) → Keeps labels nexts order → IsKept (record { order = order; labels = labels; room = room })
+kept labels nexts order room k =
+    record { numbered = numbered labels nexts order k; counted = k.same_count ∙ sym k.count; rises = k.rises }
 
 -- an insert makes a list longer by one
 pub grown_by_one : (x item : ℕ) (old new : List ℕ) → IsNumbered old → x < length old → new ≡ put_after x (item ∷ []) old → length new ≡ length old + 1

@@ -1,8 +1,8 @@
 -- Labels that are spread evenly.
 use Rattle.std.proofs.Common.{◌≡◌, ℕ, ◌+◌, ◌*◌, ◌-◌, append_assoc, add-one, ◌<◌, ◌≤◌, ◌^◌, true, false, List, [], ◌∷◌, ◌++◌, inl, inr, length, length-append, get_or, set, sym, ◌∙◌, subst, refl, ap, arith, get_or-set_other}
 use Rattle.std.specs.Prelude.{Option, Some, None, ◌==◌, slice_index}
-use Rattle.order_list.specs.Ordered.{is_in, next_of, high_by}
-use Rattle.order_list.specs.Chain.{walk, Rises, Keeps}
+use Rattle.order_list.specs.Ordered.{Rises, is_in, next_of, high_by}
+use Rattle.order_list.specs.Chain.{walk, Keeps}
 use Rattle.order_list.specs.Ordered.{AllBelow}
 use Rattle.order_list.specs.Labels.{IsSpaced}
 use Rattle.order_list.proofs.Chains.{tested, eq_of, later_above}

@@ -1,6 +1,6 @@
 -- A list kept as the next item of each item, and the invariant of its labels.
 use Rattle.std.specs.Prelude.{◌≡◌, ℕ, zero, suc, ◌^◌, ◌<◌, true, List, [], ◌∷◌, Option, Some, None, slice_index_or, slice_index, length}
-use Rattle.order_list.specs.Ordered.{is_in, AllBelow}
+use Rattle.order_list.specs.Ordered.{is_in, AllBelow, Rises}
 
 -- the chain from an item on, at most n items of it
 abbrev pub walk : List (Option ℕ) → ℕ → Option ℕ → List ℕ
@@ -13,11 +13,6 @@ abbrev pub Linked : List (Option ℕ) → List ℕ → Type 0
 Linked nexts [] = Unit {0}
 Linked nexts (x ∷ []) = slice_index_or nexts x None ≡ None
 Linked nexts (x ∷ y ∷ ys) = (slice_index_or nexts x None ≡ Some y) × Linked nexts (y ∷ ys)
-
--- labels strictly rise along the list, above `low` and below 2^62
-abbrev pub Rises : List ℕ → ℕ → List ℕ → Type 0
-Rises labels low [] = Unit {0}
-Rises labels low (x ∷ xs) = (low < slice_index labels x) × (slice_index labels x < 2 ^ 62) × Rises labels (slice_index labels x) xs
 
 -- what the fields keep, with the list that they stand for
 pub record Keeps (labels : List ℕ) (nexts : List (Option ℕ)) (order : List ℕ) : Type 0 where

@@ -36,7 +36,7 @@ abbrev pub LabelsBy : Ordered → ℕ → List ℕ → Place → Type 0
 LabelsBy old x labels (Label l) = labels ≡ old.labels ++ l ∷ []
 LabelsBy old x labels Relabel =
     let w = window_of old x in
-    (spread : List ℕ) × IsSpaced spread w.base w.gap 0 old.order
+    (spread : List ℕ) × (length spread ≡ length old.order) × IsSpaced spread w.base w.gap 0 old.order
     × (labels ≡ spread ++ middle_of (slice_index spread x) (high_by spread (next_of x old.order)) ∷ [])
 
 abbrev pub LabelsAfter : Ordered → ℕ → List ℕ → Type 0

@@ -1,5 +1,5 @@
 -- What an order list shows, and the words for lists of items.
-use Rattle.std.specs.Prelude.{◌≡◌, ℕ, ◌^◌, ◌<◌, ◌==◌, Bool, true, false, not, ◌&&◌, if◌then◌else◌, List, [], ◌∷◌, ◌++◌, Option, Some, None, slice_index, length}
+use Rattle.std.specs.Prelude.{◌≡◌, ℕ, ◌+◌, ◌^◌, ◌<◌, ◌==◌, Bool, true, false, not, ◌&&◌, if◌then◌else◌, List, [], ◌∷◌, ◌++◌, Option, Some, None, slice_index, length}
 use Rattle.std.specs.List.{list_any}
 
 -- a list's items in order, the label of each item by its number, and for how many more it has room
@@ -39,6 +39,12 @@ high_by labels (Some y) = slice_index labels y
 abbrev pub high_of : Ordered → ℕ → ℕ
 high_of l x = high_by l.labels (next_of x l.order)
 
+-- a list of item 0 alone, with room for so many items in all
+pub record IsFresh (capacity : ℕ) (l : Ordered) : Type 0 where
+  pub order_is : l.order ≡ 0 ∷ []
+  pub labels_are : l.labels ≡ 2 ^ 61 ∷ []
+  pub room_is : l.room + 1 ≡ capacity
+
 -- each item is below n
 abbrev pub AllBelow : ℕ → List ℕ → Type 0
 AllBelow n [] = Unit {0}
@@ -48,3 +54,14 @@ AllBelow n (x ∷ xs) = (x < n) × AllBelow n xs
 pub record IsNumbered (order : List ℕ) : Type 0 where
   pub below : AllBelow (length order) order
   pub whole : (x : ℕ) → x < length order → is_in x order ≡ true
+
+-- labels strictly rise along the list, above `low` and below 2^62
+abbrev pub Rises : List ℕ → ℕ → List ℕ → Type 0
+Rises labels low [] = Unit {0}
+Rises labels low (x ∷ xs) = (low < slice_index labels x) × (slice_index labels x < 2 ^ 62) × Rises labels (slice_index labels x) xs
+
+-- what every list keeps: its items are the numbers below their count, each with a label, and labels rise along it
+pub record IsKept (l : Ordered) : Type 0 where
+  pub numbered : IsNumbered l.order
+  pub counted : length l.labels ≡ length l.order
+  pub rises : Rises l.labels 0 l.order

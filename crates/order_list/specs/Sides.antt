@@ -2,12 +2,19 @@
 use Rattle.std.specs.Prelude.{◌≡◌, ◌≢◌, ℕ, ◌%◌, Bool, true, List, [], ◌∷◌, ◌++◌, length, ◌⊎◌}
 use Rattle.order_list.specs.declared.judge.Sides.{Sides}
 use Rattle.order_list.specs.declared.judge.Moved.{Moved}
-use Rattle.order_list.specs.Ordered.{Ordered, stands_before, IsNumbered}
+use Rattle.order_list.specs.Ordered.{Ordered, stands_before, IsNumbered, IsKept}
 
 -- an English and a Hebrew list
 pub record Lists : Type 0 where
   pub english : Ordered
   pub hebrew : Ordered
+
+-- what the two lists of a `Still` keep
+pub record AreKept (l : Lists) : Type 0 where
+  pub first : IsKept l.english
+  pub second : IsKept l.hebrew
+  pub count : length l.english.order ≡ length l.hebrew.order
+  pub room : l.english.room ≡ l.hebrew.room
 
 -- these sides tell how x and y stand in the two lists
 pub record AreSides (sides : Sides) (x y : ℕ) (english hebrew : List ℕ) : Type 0 where

@@ -1,6 +1,6 @@
 //! The list of items with their labels.
 ghost use Rattle.std.specs.Prelude.{◌≡◌, ◌+◌, ◌^◌, ◌<◌, ◌≤◌, [], ◌∷◌, ◌++◌, length, IfOk, slice_index, option_map};
-ghost use Rattle.order_list.specs.Ordered.{Ordered, put_after, stands_before, next_of, high_of, IsNumbered};
+ghost use Rattle.order_list.specs.Ordered.{Ordered, put_after, stands_before, next_of, high_of, IsFresh, IsKept};
 ghost use Rattle.order_list.specs.Labels.{place_of, middle_of, window_of, gap_of, IsSpaced, LabelsAfter};
 
 use crate::item::Item;
@@ -43,7 +43,7 @@ impl OrderList {
     /// A list of item 0 alone, with room for `capacity` items in all. It takes all its memory here.
     pub fn make(alloc: Global, capacity: u32) -> Result<OrderList, NoMemory>
         requires { 1 ≤ capacity }
-        ensures { IfOk result (λ l. (l.order ≡ 0 ∷ []) × (l.labels ≡ 2 ^ 61 ∷ []) × (l.room + 1 ≡ capacity)) }
+        ensures { IfOk result (λ l. IsFresh capacity l) }
     {
         let mut labels = Vec::new(alloc);
         labels.reserve(capacity as usize)?;
@@ -60,7 +60,9 @@ impl OrderList {
 
     /// How many items there are.
     pub fn len(&self) -> u32
-        ensures { result ≡ length self.now.order }
+        ensures len { result ≡ length self.now.order }
+        // What every list keeps.
+        ensures kept { IsKept self.now }
     {
         self.nexts.len() as u32
     }
@@ -133,7 +135,8 @@ impl OrderList {
         ensures room { self.new.room + 1 ≡ self.old.room }
         ensures labels { LabelsAfter self.old x.0 self.new.labels }
         // What every list keeps.
-        ensures numbered { IsNumbered self.old.order }
+        ensures was_kept { IsKept self.old }
+        ensures kept { IsKept self.new }
     {
         match self.place_after(x) {
             Place::Label(label) => self.link(x, label),
@@ -182,9 +185,10 @@ impl OrderList {
         ensures order { self.new.order ≡ self.old.order }
         ensures room { self.new.room ≡ self.old.room }
         ensures labels { IsSpaced self.new.labels (gap_of (length self.old.order)) (gap_of (length self.old.order)) 0 self.old.order }
+        ensures counted { length self.new.labels ≡ length self.old.order }
         // What every list keeps.
         ensures few { length self.old.order < 2 ^ 32 }
-        ensures numbered { IsNumbered self.old.order }
+        ensures was_kept { IsKept self.old }
     {
         let gap = self.gap();
         spread(self.labels.as_mut_slice(), self.nexts.as_slice(), gap);
@@ -200,7 +204,8 @@ impl OrderList {
         ensures order { self.new.order ≡ put_after x.0 (result.0 ∷ []) self.old.order }
         ensures labels { self.new.labels ≡ self.old.labels ++ label ∷ [] }
         ensures room { self.new.room + 1 ≡ self.old.room }
-        ensures numbered { IsNumbered self.old.order }
+        ensures was_kept { IsKept self.old }
+        ensures kept { IsKept self.new }
     {
         let item = self.nexts.len() as u32;
         let next = self.nexts[x.0 as usize];

@@ -1,7 +1,8 @@
 //! Two lists on one thread.
 ghost use Rattle.std.specs.Prelude.{◌≡◌, ℕ, ◌+◌, ◌<◌, ◌≤◌, false, List, [], ◌∷◌, length, IfOk, IsOk};
+ghost use Rattle.order_list.specs.Ordered.{IsFresh};
 ghost use Rattle.order_list.specs.Labels.{HasInserted};
-ghost use Rattle.order_list.specs.Sides.{AreNumbered, AreSides};
+ghost use Rattle.order_list.specs.Sides.{AreKept, AreSides};
 
 use crate::item::Item;
 use crate::judge::{Judge, Moved, Sides};
@@ -32,7 +33,7 @@ impl Still {
     /// Lists of item 0 alone, with room for `capacity` items in all. It takes all its memory here.
     pub fn make(alloc: Global, capacity: u32) -> Result<Still, NoMemory>
         requires { 1 ≤ capacity }
-        ensures { IfOk result (λ s. (s.english.order ≡ 0 ∷ []) × (s.hebrew.order ≡ 0 ∷ []) × (s.english.room + 1 ≡ capacity)) }
+        ensures { IfOk result (λ s. IsFresh capacity s.english × IsFresh capacity s.hebrew) }
     {
         Ok(Still {
             english: OrderList::make(alloc, capacity)?,
@@ -42,14 +43,16 @@ impl Still {
 
     /// The English list.
     pub fn english(&self) -> &OrderList
-        ensures { result.now ≡ self.now.english }
+        ensures list { result.now ≡ self.now.english }
+        ensures count { length self.now.english.order ≡ length self.now.hebrew.order }
     {
         &self.english
     }
 
     /// The Hebrew list.
     pub fn hebrew(&self) -> &OrderList
-        ensures { result.now ≡ self.now.hebrew }
+        ensures list { result.now ≡ self.now.hebrew }
+        ensures count { length self.now.english.order ≡ length self.now.hebrew.order }
     {
         &self.hebrew
     }
@@ -72,7 +75,8 @@ impl Placer for Still {
         requires room { 1 ≤ self.old.english.room }
         ensures english { HasInserted self.old.english after_e.0 result.0 self.new.english }
         ensures hebrew { HasInserted self.old.hebrew after_h.0 result.0 self.new.hebrew }
-        ensures numbered { AreNumbered self.old.english.order self.old.hebrew.order }
+        ensures was_kept { AreKept self.old }
+        ensures kept { AreKept self.new }
     {
         self.hebrew.insert_after(after_h);
         self.english.insert_after(after_e)

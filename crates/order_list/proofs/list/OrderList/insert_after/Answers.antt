@@ -19,4 +19,4 @@ pub middle-label-requires-clause-gap : goal.middle-label-requires-clause-gap
 middle-label-requires-clause-gap c =
     let old = c.args.self.now.order in
     let P : List ℕ → Type 0 = λ order. slice_index c.relabel.new.self.labels c.args.x.0 + 2 ≤ high_by c.relabel.new.self.labels (next_of c.args.x.0 order) in
-    subst P (sym c.relabel.ensures.order) (wide c.relabel.new.self.labels old c.args.x.0 c.relabel.ensures.few c.relabel.ensures.labels (c.relabel.ensures.numbered.whole c.args.x.0 c.requires.x_in))
+    subst P (sym c.relabel.ensures.order) (wide c.relabel.new.self.labels old c.args.x.0 c.relabel.ensures.few c.relabel.ensures.labels (c.relabel.ensures.was_kept.numbered.whole c.args.x.0 c.requires.x_in))

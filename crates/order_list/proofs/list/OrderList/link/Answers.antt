@@ -2,7 +2,7 @@ use Rattle.std.proofs.Common.{◌≡◌, ◌<◌, ◌≤◌, [], ◌∷◌, sym,
 use Rattle.std.specs.Prelude.{slice_index, slice_set}
 use Rattle.order_list.specs.Ordered.{Ordered, high_of, put_after}
 use Rattle.order_list.specs.Chain.{walk}
-use Rattle.order_list.proofs.Inserting.{linked_in, IsLinked}
+use Rattle.order_list.proofs.Inserting.{linked_in, IsLinked, kept}
 use Rattle.order_list.proofs.list.OrderList.link.Goals as goal
 
 linked : (c : goal.After-self-2-1) → IsLinked c.push_reserved.new.self.items (slice_set c.push_reserved-2.new.self.items c.args.x.0 (Some c.len-item.result)) c.push_reserved-2.new.self.len (put_after c.args.x.0 (c.len-item.result ∷ []) (walk c.self.inside.nexts.items (vec_len c.self.inside.nexts) (Some 0)))
@@ -30,3 +30,6 @@ invariant_of-self c = (
 
 pub returns-clause-order : goal.returns-clause-order
 returns-clause-order c = rw (← c.self.view_is) (linked c).order_is
+
+pub returns-clause-kept : goal.returns-clause-kept
+returns-clause-kept c = kept _ _ _ _ (linked c).keeps

@@ -1,6 +1,6 @@
 use Rattle.std.proofs.Common.{◌^◌, ◌<◌, length, subst, arith}
-use Rattle.order_list.specs.Ordered.{Ordered, IsNumbered}
-use Rattle.order_list.proofs.Inserting.{numbered}
+use Rattle.order_list.specs.Ordered.{Ordered, IsKept}
+use Rattle.order_list.proofs.Inserting.{kept}
 use Rattle.order_list.proofs.list.OrderList.relabel.Goals as goal
 
 pub returns-clause-few : goal.returns-clause-few
@@ -8,7 +8,6 @@ returns-clause-few c =
     let P : Ordered → Type 0 = λ v. length v.order < 2 ^ 32 in
     subst P c.self.view_is (omega (arith, c.self.invariant.0.count, c.self.invariant.3, c.self.inside.nexts.ok.0))
 
-pub returns-clause-numbered : goal.returns-clause-numbered
-returns-clause-numbered c =
-    let P : Ordered → Type 0 = λ v. IsNumbered v.order in
-    subst P c.self.view_is (numbered c.self.inside.labels.items c.self.inside.nexts.items _ c.self.invariant.0)
+pub returns-clause-was_kept : goal.returns-clause-was_kept
+returns-clause-was_kept c =
+    subst IsKept c.self.view_is (kept c.self.inside.labels.items c.self.inside.nexts.items _ _ c.self.invariant.0)
