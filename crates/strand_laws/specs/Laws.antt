@@ -1,10 +1,10 @@
 -- Laws of sound lists of events, the newest event first.
-use Rattle.std.specs.Prelude.{◌≡◌, ◌≢◌, ℕ, ◌<◌, true, ◌↔◌, List, ◌++◌, ◌⊎◌, Some, None}
+use Rattle.std.specs.Prelude.{◌≡◌, ◌≢◌, ℕ, ◌<◌, true, ◌↔◌, List, length, ◌∷◌, ◌++◌, ◌⊎◌, Some, None}
 use Rattle.fut_base.specs.declared.event.Event.{Event}
 use Rattle.fut_base.specs.Events.{structure_of}
 use Rattle.fut_base.specs.Dag.{edges_of, edges_past, Among, ReachesBy, block_of, last_of}
-use Rattle.fut_base.specs.Orders.{precedes_past, stands_before, english_past}
-use Rattle.fut_base.specs.Sound.{IsSoundPast, InnerReaches, next_strand, home_of, current, holds_handle}
+use Rattle.fut_base.specs.Orders.{precedes_past, stands_before, english_past, hebrew_past}
+use Rattle.fut_base.specs.Sound.{IsSoundPast, InnerReaches, next_strand, home_of, future_of, current, holds_handle}
 use Rattle.fut_base.specs.Tables.{table_past}
 
 -- two strands of a list of events
@@ -81,3 +81,16 @@ TryMeansPath =
 -- the edges of a history are those of its structure
 abbrev pub StructureHasEdges : Type 0
 StructureHasEdges = (h : List Event) → edges_of (structure_of h) ≡ edges_of h
+
+-- the strand on which a task stands belongs to the task's future
+abbrev pub CurrentBelongs : Type 0
+CurrentBelongs = (past : List Event) → IsSoundPast past → (t s : ℕ) → current past t ≡ Some s → home_of past s ≡ future_of past t
+
+-- a further event changes the future of no strand that was there
+abbrev pub HomesStay : Type 0
+HomesStay = (past : List Event) (e : Event) → IsSoundPast (e ∷ past) → (v : ℕ) → v < next_strand past → home_of (e ∷ past) v ≡ home_of past v
+
+-- both orders have as many items as there are strands
+abbrev pub OrdersHaveStrands : Type 0
+OrdersHaveStrands =
+    (past : List Event) → IsSoundPast past → (length (english_past past) ≡ next_strand past) × (length (hebrew_past past) ≡ next_strand past)

@@ -1,5 +1,5 @@
 //! Laws of sound lists of events.
-ghost use Rattle.strand_laws.specs.Laws.{PrecedesMeansPath, PathsStayInside, TableMeansPath, TableHasOne, WaitedStandsBefore, CurrentEndsPaths, PathsAreKept, LeastWaitsForNone, TryMeansPath, StructureHasEdges};
+ghost use Rattle.strand_laws.specs.Laws.{PrecedesMeansPath, PathsStayInside, TableMeansPath, TableHasOne, WaitedStandsBefore, CurrentEndsPaths, PathsAreKept, LeastWaitsForNone, TryMeansPath, StructureHasEdges, CurrentBelongs, HomesStay, OrdersHaveStrands};
 
 /// Each edge leads to a later strand, and a further event adds no path between strands that were there.
 pub use fut_base::rows::{edges_rise, paths_stay};
@@ -52,4 +52,19 @@ pub fn try_means_path()
 /// The edges of a history are those of its structure.
 pub fn structure_has_edges()
     ensures { StructureHasEdges }
+{}
+
+/// The strand on which a task stands belongs to the task's future.
+pub fn current_belongs()
+    ensures { CurrentBelongs }
+{}
+
+/// A further event changes the future of no strand that was there.
+pub fn homes_stay()
+    ensures { HomesStay }
+{}
+
+/// Both orders have as many items as there are strands.
+pub fn orders_have_strands()
+    ensures { OrdersHaveStrands }
 {}

@@ -4,6 +4,7 @@ use Rattle.fut_base.specs.declared.event.Event.{Event}
 use Rattle.fut_base.specs.declared.event.Action.{Action}
 use Rattle.fut_base.specs.Dag.{last_of, block_of}
 use Rattle.fut_base.specs.Orders.{english_of, hebrew_of}
+use Rattle.fut_base.specs.Sound.{IsSound, next_strand, home_of}
 use Rattle.strand_tree.specs.declared.strand.Strand.{Strand}
 
 -- a strand is in both lists, whose items are the numbers below their length
@@ -37,3 +38,15 @@ IsLastOf past (child ∷ _) (Some last) = last_of past child ≡ Some last.numbe
 -- the last strand of the first child of a task's block, where there is one
 abbrev pub IsLastOfFirst : List Event → ℕ → Option Strand → Type 0
 IsLastOfFirst s task last = IsLastOf (reverse s) (block_of (reverse s) task) last
+
+-- a strand of a list of structural events, and the future that it belongs to there
+pub record IsStrandOf (s : List Event) (v : Strand) : Type 0 where
+  pub there : v.number < next_strand (reverse s)
+  pub future_is : v.future ≡ home_of (reverse s) v.number
+
+-- where a sound list of structural events ends with this action of a task, and the acting strand is one of the events
+-- before, the strand is one of the list
+abbrev pub Belongs : List Event → ℕ → Strand → Action → Strand → Type 0
+Belongs s task at action v =
+    let longer = s ++ record { task = task; strand = at.number; action = action } ∷ [] in
+    IsSound longer → IsStrandOf s at → IsStrandOf longer v

@@ -4,7 +4,7 @@ ghost use Rattle.fut_base.specs.declared.record.Value.{Value};
 ghost use Rattle.fut_base.specs.declared.event.Event.{Event};
 ghost use Rattle.fut_base.specs.declared.event.Action.TheVariants.{Spawns, Creates, Syncs, Gets};
 ghost use Rattle.fut_base.specs.Orders.{put_after};
-ghost use Rattle.strand_tree.specs.Placing.{IsIn, Extends, IsLastOfFirst, AreNext};
+ghost use Rattle.strand_tree.specs.Placing.{IsIn, Extends, IsLastOfFirst, AreNext, Belongs};
 
 use crate::strand::Strand;
 use order_list::Placer;
@@ -24,6 +24,9 @@ pub fn spawn<P: Placer>(placer: &mut P, at: Strand) -> (Strand, Strand)
     ensures extends { (s : List Event) (task code child : ℕ) (args : List Value)
         → Extends s task at.number (Spawns code child result.0.number result.1.number args)
         (P.english placer.old) (P.hebrew placer.old) (P.english placer.new) (P.hebrew placer.new) }
+    ensures belong { (s : List Event) (task code child : ℕ) (args : List Value)
+        → Belongs s task at (Spawns code child result.0.number result.1.number args) result.0
+        × Belongs s task at (Spawns code child result.0.number result.1.number args) result.1 }
 {
     fork(placer, at, at.future)
 }
@@ -44,6 +47,9 @@ pub fn create<P: Placer>(placer: &mut P, at: Strand, child: u32) -> (Strand, Str
     ensures extends { (s : List Event) (task code : ℕ) (args : List Value)
         → Extends s task at.number (Creates code child result.0.number result.1.number args)
         (P.english placer.old) (P.hebrew placer.old) (P.english placer.new) (P.hebrew placer.new) }
+    ensures belong { (s : List Event) (task code : ℕ) (args : List Value)
+        → Belongs s task at (Creates code child result.0.number result.1.number args) result.0
+        × Belongs s task at (Creates code child result.0.number result.1.number args) result.1 }
 {
     fork(placer, at, child)
 }
@@ -64,6 +70,7 @@ pub fn sync<P: Placer>(placer: &mut P, at: Strand, first_last: Option<Strand>) -
     // The orders of some structural events become those of these and the sync.
     ensures extends { (s : List Event) (task : ℕ) → IsLastOfFirst s task first_last
         → Extends s task at.number (Syncs result.number) (P.english placer.old) (P.hebrew placer.old) (P.english placer.new) (P.hebrew placer.new) }
+    ensures belongs { (s : List Event) (task : ℕ) → Belongs s task at (Syncs result.number) result }
 {
     join(placer, at, first_last.unwrap_or(at))
 }
@@ -82,6 +89,7 @@ pub fn get<P: Placer>(placer: &mut P, at: Strand) -> Strand
     // The orders of some structural events become those of these and the get.
     ensures extends { (s : List Event) (task future : ℕ) (value : Value)
         → Extends s task at.number (Gets future value result.number) (P.english placer.old) (P.hebrew placer.old) (P.english placer.new) (P.hebrew placer.new) }
+    ensures belongs { (s : List Event) (task future : ℕ) (value : Value) → Belongs s task at (Gets future value result.number) result }
 {
     join(placer, at, at)
 }
