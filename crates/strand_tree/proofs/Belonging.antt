@@ -35,38 +35,44 @@ pub kid_of_spawn : (s : List Event) (task code child cont : ℕ) (args : List Va
 kid_of_spawn s task code child cont args at v is =
     belongs_by s task at (Spawns code child v.number cont args) v (λ sound here. (
       (let k : v.number ≡ next_strand (reverse s) = sound.1.acts.1 in omega (arith, k)),
-      is ∙ acting (reverse s) task at _ sound here ∙ sym (ap (λ b. if b then future_of (reverse s) task else home_of (reverse s) v.number) (or_left v.number cont))))
+      is ∙ acting (reverse s) task at _ sound here ∙ sym (ap (λ b. if b then future_of (reverse s) task else home_of (reverse s) v.number) (or_left v.number cont)),
+    ))
 
 pub cont_of_spawn : (s : List Event) (task code child kid : ℕ) (args : List Value) (at v : Strand) → v.future ≡ at.future → Belongs s task at (Spawns code child kid v.number args) v
 cont_of_spawn s task code child kid args at v is =
     belongs_by s task at (Spawns code child kid v.number args) v (λ sound here. (
       (let k : kid ≡ next_strand (reverse s) = sound.1.acts.1 in let y : v.number ≡ kid + 1 = sound.1.acts.2 in omega (arith, k, y)),
-      is ∙ acting (reverse s) task at _ sound here ∙ sym (ap (λ b. if b then future_of (reverse s) task else home_of (reverse s) v.number) (or_right v.number kid))))
+      is ∙ acting (reverse s) task at _ sound here ∙ sym (ap (λ b. if b then future_of (reverse s) task else home_of (reverse s) v.number) (or_right v.number kid)),
+    ))
 
 pub kid_of_create : (s : List Event) (task code child cont : ℕ) (args : List Value) (at v : Strand) → v.future ≡ child → Belongs s task at (Creates code child v.number cont args) v
 kid_of_create s task code child cont args at v is =
     belongs_by s task at (Creates code child v.number cont args) v (λ sound here. (
       (let k : v.number ≡ next_strand (reverse s) = sound.1.acts.1 in omega (arith, k)),
-      is ∙ sym (if_self v.number child (if v.number == cont then future_of (reverse s) task else home_of (reverse s) v.number))))
+      is ∙ sym (if_self v.number child (if v.number == cont then future_of (reverse s) task else home_of (reverse s) v.number)),
+    ))
 
 pub cont_of_create : (s : List Event) (task code child kid : ℕ) (args : List Value) (at v : Strand) → v.future ≡ at.future → Belongs s task at (Creates code child kid v.number args) v
 cont_of_create s task code child kid args at v is =
     belongs_by s task at (Creates code child kid v.number args) v (λ sound here. (
-      let k : kid ≡ next_strand (reverse s) = sound.1.acts.1 in
-      let y : v.number ≡ kid + 1 = sound.1.acts.2 in
-      let own = future_of (reverse s) task in
-      let ne : v.number ≢ kid = (λ e. absurd (omega (arith, e, y))) in
-      (omega (arith, k, y),
-      is ∙ acting (reverse s) task at _ sound here ∙ sym (if_off v.number kid child _ ne ∙ if_self v.number own (home_of (reverse s) v.number)))))
+    let k : kid ≡ next_strand (reverse s) = sound.1.acts.1 in
+    let y : v.number ≡ kid + 1 = sound.1.acts.2 in
+    let own = future_of (reverse s) task in
+    let ne : v.number ≢ kid = (λ e. absurd (omega (arith, e, y))) in (
+      omega (arith, k, y),
+      is ∙ acting (reverse s) task at _ sound here ∙ sym (if_off v.number kid child _ ne ∙ if_self v.number own (home_of (reverse s) v.number)),
+    )))
 
 pub of_sync : (s : List Event) (task : ℕ) (at v : Strand) → v.future ≡ at.future → Belongs s task at (Syncs v.number) v
 of_sync s task at v is =
     belongs_by s task at (Syncs v.number) v (λ sound here. (
       (let k : v.number ≡ next_strand (reverse s) = sound.1.acts.0 in omega (arith, k)),
-      is ∙ acting (reverse s) task at _ sound here ∙ sym (if_self v.number (future_of (reverse s) task) (home_of (reverse s) v.number))))
+      is ∙ acting (reverse s) task at _ sound here ∙ sym (if_self v.number (future_of (reverse s) task) (home_of (reverse s) v.number)),
+    ))
 
 pub of_get : (s : List Event) (task future : ℕ) (value : Value) (at v : Strand) → v.future ≡ at.future → Belongs s task at (Gets future value v.number) v
 of_get s task future value at v is =
     belongs_by s task at (Gets future value v.number) v (λ sound here. (
       (let k : v.number ≡ next_strand (reverse s) = sound.1.acts.0 in omega (arith, k)),
-      is ∙ acting (reverse s) task at _ sound here ∙ sym (if_self v.number (future_of (reverse s) task) (home_of (reverse s) v.number))))
+      is ∙ acting (reverse s) task at _ sound here ∙ sym (if_self v.number (future_of (reverse s) task) (home_of (reverse s) v.number)),
+    ))

@@ -22,8 +22,8 @@ two_after x a b n [] h le = refl
 two_after x a b n (z ∷ zs) h le =
     let R : List ℕ = if z == x then a ∷ zs else put_after x (a ∷ []) zs in
     let rest : put_after a (b ∷ []) R ≡ (if z == x then a ∷ b ∷ zs else put_after x (a ∷ b ∷ []) zs) =
-        by_eq (λ t. put_after a (b ∷ []) (if t then a ∷ zs else put_after x (a ∷ []) zs) ≡ (if t then a ∷ b ∷ zs else put_after x (a ∷ b ∷ []) zs)) z x
-        (λ _. head_then a b zs) (λ _. two_after x a b n zs h.1 le) in
+    by_eq (λ t. put_after a (b ∷ []) (if t then a ∷ zs else put_after x (a ∷ []) zs) ≡ (if t then a ∷ b ∷ zs else put_after x (a ∷ b ∷ []) zs)) z x
+    (λ _. head_then a b zs) (λ _. two_after x a b n zs h.1 le) in
     by_eq (λ t. z ∷ (if t then b ∷ R else put_after a (b ∷ []) R) ≡ z ∷ (if z == x then a ∷ b ∷ zs else put_after x (a ∷ b ∷ []) zs)) z a
     (λ same. absurd (omega (arith, h.0, le, same))) (λ _. ap (λ r. z ∷ r) rest)
 

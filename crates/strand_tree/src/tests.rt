@@ -26,9 +26,18 @@ fn a_sync_stands_last(rt: HostRuntime) -> Result<(), Fail> {
     assert_eq!(rt; hebrew.next(Item(2)), Some(Item(1)));
     assert_eq!(rt; hebrew.next(Item(1)), Some(Item(3)));
     assert_eq!(rt; hebrew.next(Item(3)), None);
-    assert_eq!(rt; still.try_sides(Item(1), Item(2)).ok().map(precedes), Some(false));
-    assert_eq!(rt; still.try_sides(Item(2), Item(1)).ok().map(precedes), Some(false));
-    assert_eq!(rt; still.try_sides(Item(1), Item(3)).ok().map(precedes), Some(true));
+    assert_eq!(rt;
+        still.try_sides(Item(1), Item(2)).ok().map(precedes),
+        Some(false)
+    );
+    assert_eq!(rt;
+        still.try_sides(Item(2), Item(1)).ok().map(precedes),
+        Some(false)
+    );
+    assert_eq!(rt;
+        still.try_sides(Item(1), Item(3)).ok().map(precedes),
+        Some(true)
+    );
     Ok(())
 }
 
