@@ -1,5 +1,5 @@
 -- A list kept as the next item of each item, and the invariant of its labels.
-use Rattle.std.specs.Prelude.{◌≡◌, ℕ, zero, suc, ◌^◌, ◌<◌, true, List, [], ◌∷◌, Option, Some, None, slice_index_or, slice_index, length}
+use Rattle.std.specs.Prelude.{◌≡◌, ℕ, zero, suc, ◌<◌, true, List, [], ◌∷◌, Option, Some, None, slice_index_or, length}
 use Rattle.order_list.specs.Ordered.{is_in, AllBelow, Rises}
 
 -- the chain from an item on, at most n items of it

@@ -1,5 +1,5 @@
 -- The futures of the strands that an event makes.
-use Rattle.std.proofs.Common.{◌≡◌, ◌≢◌, ℕ, ◌+◌, ◌<◌, Bool, true, List, [], ◌∷◌, ◌++◌, reverse, ap, sym, subst, refl, ◌∙◌, arith, ◌==◌, if◌then◌else◌}
+use Rattle.std.proofs.Common.{◌≡◌, ◌≢◌, ℕ, ◌+◌, ◌<◌, List, [], ◌∷◌, reverse, ap, sym, subst, ◌∙◌, arith, ◌==◌, if◌then◌else◌}
 use Rattle.std.proofs.lemmas.List.{reverse-append}
 use Rattle.fut_base.specs.declared.record.Value.{Value}
 use Rattle.fut_base.specs.declared.event.Event.{Event}
@@ -10,7 +10,7 @@ use Rattle.strand_laws.proofs.Links.{ev, if_self, if_off}
 use Rattle.strand_laws.proofs.Sources.{or_left, or_right}
 use Rattle.strand_laws.proofs.Homes.{current_belongs}
 use Rattle.strand_tree.specs.declared.strand.Strand.{Strand}
-use Rattle.strand_tree.specs.Placing.{IsStrandOf, Belongs}
+use Rattle.strand_tree.specs.Placing.{Belongs}
 
 -- a strand is one of these events, the newest first
 abbrev IsOf : List Event → Strand → Type 0

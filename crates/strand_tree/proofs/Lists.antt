@@ -1,5 +1,5 @@
 -- Lists of items are lists of strands, and two items that are put into them one after the other.
-use Rattle.std.proofs.Common.{◌≡◌, ◌≢◌, ℕ, ◌<◌, ◌+◌, ◌≤◌, Bool, true, false, not, ◌&&◌, List, [], ◌∷◌, ◌++◌, ◌⊎◌, inl, inr, length, ap, sym, subst, refl, ◌∙◌, arith, ◌==◌, if◌then◌else◌}
+use Rattle.std.proofs.Common.{◌≡◌, ℕ, ◌≤◌, not, ◌&&◌, List, [], ◌∷◌, ◌++◌, length, ap, refl, ◌∙◌, arith, ◌==◌, if◌then◌else◌}
 use Rattle.order_list.specs.Ordered as items
 use Rattle.order_list.specs.Ordered.{AllBelow, IsNumbered}
 use Rattle.fut_base.specs.Orders.{put_after, stands_before, is_in}

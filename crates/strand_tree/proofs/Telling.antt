@@ -1,5 +1,5 @@
 -- The sides of two strands tell whether there is a path.
-use Rattle.std.proofs.Common.{◌≡◌, Bool, true, ◌&&◌, List, reverse, ap, sym, subst, ◌∙◌}
+use Rattle.std.proofs.Common.{◌≡◌, Bool, true, ◌&&◌, reverse, ap, sym, subst, ◌∙◌}
 use Rattle.std.specs.Prelude.{◌↔◌}
 use Rattle.order_list.specs.declared.judge.Sides.{Sides}
 use Rattle.fut_base.specs.Orders.{stands_before, english_of, hebrew_of, precedes}

@@ -1,4 +1,4 @@
-use Rattle.std.proofs.Common.{◌≡◌, ◌+◌, ◌<◌, ◌∙◌, length, arith, refl, sym}
+use Rattle.std.proofs.Common.{◌∙◌, arith, refl}
 use Rattle.order_list.proofs.Inserting.{grown_by_one}
 use Rattle.strand_tree.proofs.Lists.{english_fork, hebrew_fork}
 use Rattle.strand_tree.proofs.placing.fork.Goals as goal

@@ -1,4 +1,4 @@
-use Rattle.std.proofs.Common.{◌≡◌, ◌&&◌, ◌∙◌, ap, sym}
+use Rattle.std.proofs.Common.{◌&&◌, ◌∙◌, ap, sym}
 use Rattle.strand_tree.proofs.Telling.{tells_paths}
 use Rattle.strand_tree.proofs.strand.precedes.Goals as goal
 
