@@ -1,0 +1,4 @@
+pub mod Chain
+pub mod Labels
+pub mod Ordered
+pub mod Sides

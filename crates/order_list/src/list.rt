@@ -1,0 +1,218 @@
+//! The list of items with their labels.
+ghost use Rattle.std.specs.Prelude.{◌≡◌, ◌+◌, ◌^◌, ◌<◌, ◌≤◌, [], ◌∷◌, ◌++◌, length, IfOk, slice_index, option_map};
+ghost use Rattle.order_list.specs.Ordered.{Ordered, put_after, stands_before, next_of, high_of, IsFresh, IsKept};
+ghost use Rattle.order_list.specs.Labels.{place_of, middle_of, window_of, gap_of, IsSpaced, LabelsAfter};
+
+use crate::item::Item;
+use crate::place::{Place, Window};
+use crate::spread::spread;
+use std::alloc::Global;
+use std::marker::Model;
+
+/// Want of memory.
+pub use std::alloc::AllocError as NoMemory;
+
+/// One more than the greatest label.
+const END: u64 = 1 << 62;
+
+/// A list of items with item 0 first. Contracts see the items in order, their labels by number, and for how many more
+/// items it has room. Labels are below 2^62.
+#[derive(Drop)]
+pub struct OrderList {
+    labels: Vec<u64>,
+    nexts: Vec<Option<u32>>,
+    room: u32,
+}
+
+impl Model for OrderList {
+    ghost use Rattle.std.specs.Prelude.{◌+◌, ◌^◌, ◌≤◌, ◌<◌, Some, vec_len, vec_capacity};
+    ghost use Rattle.order_list.specs.Ordered.{Ordered};
+    ghost use Rattle.order_list.specs.Chain.{walk, Keeps};
+
+    ghost Value = { Ordered };
+
+    ghost view = { λ l. record { order = walk l.nexts.items (vec_len l.nexts) (Some 0); labels = l.labels.items; room = l.room } };
+
+    ghost invariant = { λ l. Keeps l.labels.items l.nexts.items (walk l.nexts.items (vec_len l.nexts) (Some 0))
+        × (vec_len l.labels + l.room ≤ vec_capacity l.labels)
+        × (vec_len l.nexts + l.room ≤ vec_capacity l.nexts)
+        × (vec_len l.nexts + l.room < 2 ^ 32) };
+}
+
+impl OrderList {
+    /// A list of item 0 alone, with room for `capacity` items in all. It takes all its memory here.
+    pub fn make(alloc: Global, capacity: u32) -> Result<OrderList, NoMemory>
+        requires { 1 ≤ capacity }
+        ensures { IfOk result (λ l. IsFresh capacity l) }
+    {
+        let mut labels = Vec::new(alloc);
+        labels.reserve(capacity as usize)?;
+        let mut nexts = Vec::new(alloc);
+        nexts.reserve(capacity as usize)?;
+        labels.push_reserved(END / 2);
+        nexts.push_reserved(None);
+        Ok(OrderList {
+            labels,
+            nexts,
+            room: capacity - 1,
+        })
+    }
+
+    /// How many items there are.
+    pub fn len(&self) -> u32
+        ensures len { result ≡ length self.now.order }
+        // What every list keeps.
+        ensures kept { IsKept self.now }
+    {
+        self.nexts.len() as u32
+    }
+
+    /// The label of x.
+    pub fn label(&self, x: Item) -> u64
+        requires { x.0 < length self.now.order }
+        ensures { result ≡ slice_index self.now.labels x.0 }
+    {
+        self.labels[x.0 as usize]
+    }
+
+    /// Whether x stands before y.
+    pub fn before(&self, x: Item, y: Item) -> bool
+        requires x_in { x.0 < length self.now.order }
+        requires y_in { y.0 < length self.now.order }
+        ensures { result ≡ stands_before x.0 y.0 self.now.order }
+    {
+        self.labels[x.0 as usize] < self.labels[y.0 as usize]
+    }
+
+    /// The item right after x; `None` exactly after the last.
+    pub fn next(&self, x: Item) -> Option<Item>
+        requires { x.0 < length self.now.order }
+        ensures { option_map (λ i. i.0) result ≡ next_of x.0 self.now.order }
+    {
+        match self.nexts[x.0 as usize] {
+            Some(next) => Some(Item(next)),
+            None => None,
+        }
+    }
+
+    /// The label of an item that is put after x, in the middle between that of x and the next one, or 2^62 after the
+    /// last.
+    pub fn place_after(&self, x: Item) -> Place
+        requires { x.0 < length self.now.order }
+        ensures { result ≡ place_of self.now x.0 }
+    {
+        let low = self.labels[x.0 as usize];
+        let high = self.high_after(x);
+        if high - low < 2 {
+            Place::Relabel
+        } else {
+            Place::Label(low + (high - low) / 2)
+        }
+    }
+
+    /// The items and labels of a relabelling at x: the whole list.
+    pub fn window(&self, x: Item) -> Window
+        requires { x.0 < length self.now.order }
+        ensures { result ≡ window_of self.now x.0 }
+    {
+        let items = self.nexts.len() as u32;
+        let gap = self.gap();
+        Window {
+            first: Item(0),
+            items,
+            base: gap,
+            gap,
+        }
+    }
+
+    /// Puts a new item right after x. Where there is no label between, all labels are made anew first. It takes no
+    /// memory.
+    pub fn insert_after(&mut self, x: Item) -> Item
+        requires x_in { x.0 < length self.old.order }
+        requires room { 1 ≤ self.old.room }
+        ensures item { result.0 ≡ length self.old.order }
+        ensures order { self.new.order ≡ put_after x.0 (result.0 ∷ []) self.old.order }
+        ensures room { self.new.room + 1 ≡ self.old.room }
+        ensures labels { LabelsAfter self.old x.0 self.new.labels }
+        // What every list keeps.
+        ensures was_kept { IsKept self.old }
+        ensures kept { IsKept self.new }
+    {
+        match self.place_after(x) {
+            Place::Label(label) => self.link(x, label),
+            Place::Relabel => {
+                self.relabel();
+                let label = self.middle(x);
+                self.link(x, label)
+            }
+        }
+    }
+
+    // The label of the next item, or 2^62.
+    fn high_after(&self, x: Item) -> u64
+        requires { x.0 < length self.now.order }
+        ensures high { result ≡ high_of self.now x.0 }
+        ensures above { slice_index self.now.labels x.0 < result }
+        ensures most { result ≤ 2 ^ 62 }
+    {
+        match self.nexts[x.0 as usize] {
+            Some(next) => self.labels[next as usize],
+            None => END,
+        }
+    }
+
+    // The label in the middle between an item and the next.
+    fn middle(&self, x: Item) -> u64
+        requires x_in { x.0 < length self.now.order }
+        requires gap { slice_index self.now.labels x.0 + 2 ≤ high_of self.now x.0 }
+        ensures middle { result ≡ middle_of (slice_index self.now.labels x.0) (high_of self.now x.0) }
+        ensures above { slice_index self.now.labels x.0 < result }
+        ensures below { result < high_of self.now x.0 }
+    {
+        let low = self.labels[x.0 as usize];
+        low + (self.high_after(x) - low) / 2
+    }
+
+    // The distance of labels that are spread evenly.
+    fn gap(&self) -> u64
+        ensures { result ≡ gap_of (length self.now.order) }
+    {
+        END / (u64::from(self.len()) + 1)
+    }
+
+    // Spreads the labels evenly.
+    fn relabel(&mut self)
+        ensures order { self.new.order ≡ self.old.order }
+        ensures room { self.new.room ≡ self.old.room }
+        ensures labels { IsSpaced self.new.labels (gap_of (length self.old.order)) (gap_of (length self.old.order)) 0 self.old.order }
+        ensures counted { length self.new.labels ≡ length self.old.order }
+        // What every list keeps.
+        ensures few { length self.old.order < 2 ^ 32 }
+        ensures was_kept { IsKept self.old }
+    {
+        let gap = self.gap();
+        spread(self.labels.as_mut_slice(), self.nexts.as_slice(), gap);
+    }
+
+    // Puts an item right after x, with a label that is free there.
+    fn link(&mut self, x: Item, label: u64) -> Item
+        requires x_in { x.0 < length self.old.order }
+        requires room { 1 ≤ self.old.room }
+        requires low { slice_index self.old.labels x.0 < label }
+        requires high { label < high_of self.old x.0 }
+        ensures item { result.0 ≡ length self.old.order }
+        ensures order { self.new.order ≡ put_after x.0 (result.0 ∷ []) self.old.order }
+        ensures labels { self.new.labels ≡ self.old.labels ++ label ∷ [] }
+        ensures room { self.new.room + 1 ≡ self.old.room }
+        ensures was_kept { IsKept self.old }
+        ensures kept { IsKept self.new }
+    {
+        let item = self.nexts.len() as u32;
+        let next = self.nexts[x.0 as usize];
+        self.labels.push_reserved(label);
+        self.nexts.push_reserved(next);
+        self.nexts[x.0 as usize] = Some(item);
+        self.room -= 1;
+        Item(item)
+    }
+}

@@ -1,0 +1,90 @@
+//! Labels and answers worked out by hand.
+ghost use Rattle.std.specs.Prelude.{◌≡◌, ◌+◌, ◌<◌, length, IfOk};
+
+use crate::item::Item;
+use crate::judge::{Judge, Sides};
+use crate::list::{NoMemory, OrderList};
+use crate::place::{Place, Window};
+use crate::placer::Placer;
+use crate::still::Still;
+use std::alloc::Global;
+use std::process::Abort;
+use std::test::Fail;
+
+// A list with room for 100 items after so many inserts after item 0.
+fn after_inserts(alloc: Global, inserts: u32) -> Result<OrderList, NoMemory>
+    requires { inserts < 100 }
+    ensures { IfOk result (λ list. (length list.order ≡ inserts + 1) × (list.room + inserts + 1 ≡ 100)) }
+{
+    let mut list = OrderList::make(alloc, 100)?;
+    for _k in 0..inserts {
+        list.insert_after(Item(0));
+    }
+    Ok(list)
+}
+
+#[test]
+fn labels_halve_until_there_is_none(rt: HostRuntime) -> Result<(), Fail> {
+    let cases = [
+        (0, Place::Label((1 << 61) + (1 << 60))),
+        (1, Place::Label((1 << 61) + (1 << 59))),
+        (60, Place::Label((1 << 61) + 1)),
+        (61, Place::Relabel),
+    ];
+    for (inserts, place) in cases {
+        let list = after_inserts(rt.alloc(), inserts)?;
+        assert_eq!(rt; list.len(), inserts + 1);
+        assert_eq!(rt; list.label(Item(0)), 1 << 61);
+        assert_eq!(rt; list.place_after(Item(0)), place, "after {inserts} inserts");
+    }
+    Ok(())
+}
+
+#[test]
+fn the_last_insert_stands_first(rt: HostRuntime) -> Result<(), Fail> {
+    let list = after_inserts(rt.alloc(), 2)?;
+    assert_eq!(rt; list.label(Item(1)), (1 << 61) + (1 << 60));
+    assert_eq!(rt; list.label(Item(2)), (1 << 61) + (1 << 59));
+    assert!(rt; list.before(Item(2), Item(1)));
+    assert_eq!(rt; list.next(Item(2)), Some(Item(1)));
+    assert_eq!(rt; list.next(Item(1)), None);
+    Ok(())
+}
+
+#[test]
+fn labels_are_made_anew(rt: HostRuntime) -> Result<(), Fail> {
+    let gap = 73_201_365_371_863_300;
+    let mut list = after_inserts(rt.alloc(), 61)?;
+    let window = Window {
+        first: Item(0),
+        items: 62,
+        base: gap,
+        gap,
+    };
+    assert_eq!(rt; list.window(Item(0)), window);
+    assert_eq!(rt; list.insert_after(Item(0)), Item(62));
+    assert_eq!(rt; list.next(Item(0)), Some(Item(62)));
+    assert_eq!(rt; list.label(Item(0)), gap);
+    assert_eq!(rt; list.label(Item(62)), 109_802_048_057_794_950);
+    assert_eq!(rt; list.label(Item(61)), 146_402_730_743_726_600);
+    assert_eq!(rt; list.label(Item(1)), 62 * gap);
+    Ok(())
+}
+
+fn sides(english: bool, hebrew: bool) -> Option<Sides> {
+    Some(Sides { english, hebrew })
+}
+
+#[test]
+fn sides_of_two_lists(rt: HostRuntime) -> Result<(), Fail> {
+    let mut still = Still::make(rt.alloc(), 3)?;
+    assert_eq!(rt; still.insert(Item(0), Item(0)), Item(1));
+    assert_eq!(rt; still.insert(Item(1), Item(0)), Item(2));
+    assert_eq!(rt; still.try_sides(Item(0), Item(1)).ok(), sides(true, true));
+    assert_eq!(rt; still.try_sides(Item(1), Item(2)).ok(), sides(true, false));
+    assert_eq!(rt; still.try_sides(Item(2), Item(1)).ok(), sides(false, true));
+    assert_eq!(rt; still.try_sides(Item(1), Item(1)).ok(), sides(false, false));
+    assert_eq!(rt; still.english().next(Item(1)), Some(Item(2)));
+    assert_eq!(rt; still.hebrew().next(Item(1)), None);
+    Ok(())
+}

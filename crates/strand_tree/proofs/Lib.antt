@@ -1,0 +1,3 @@
+pub mod Lists
+pub mod Telling
+pub mod Belonging
