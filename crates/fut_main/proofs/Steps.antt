@@ -81,7 +81,7 @@ write_keeps code run next t cell value last asks y P of =
     let runs : x.before.task.spot.ended ≡ false = subst (λ (l : Line). l.task.spot.ended ≡ false) (some_same last.0.0 x.before (sym last.0.1 ∙ x.present)) last.0.2 in
     let w = λ (r : Running) (e : slice_get m.tasks t ≡ Some r). a.1.wishes r e in
     let n = acts P code lines (events_of run.history) run.strands m t x.before x.after (Writes cell value) [] of a.1.stands x.present runs x.fed (x.strand_is ∙ y.same) (ended_same _ _ false x.fed.spot runs)
-        (λ r e l. (record { stop = (w r e).0; stands = at_event r.state (w r e).0 (w r e).1; answers = (w r e).2; permits = tt }, tt)) in
+    (λ r e l. (record { stop = (w r e).0; stands = at_event r.state (w r e).0 (w r e).1; answers = (w r e).2; permits = tt }, tt)) in
     (n.0, same_stands P code _ _ _ _ _ _ n.0 (x.lines ∙ sym (append-nil (slice_set lines t x.after))) x.event (x.strands ∙ sym (add-zero run.strands)) n.1)
 
 pub end_keeps : (code : Compiled) (run next : Progress) (t : ℕ) (value : Value) → IsLastRunning run.lines.items t → Asks code run t (wish.End value) → Stays code run next t (Ends value) → Keeps code next.lines.items (events_of next.history) next.strands
@@ -93,7 +93,7 @@ end_keeps code run next t value last asks y P of =
     let runs : x.before.task.spot.ended ≡ false = subst (λ (l : Line). l.task.spot.ended ≡ false) (some_same last.0.0 x.before (sym last.0.1 ∙ x.present)) last.0.2 in
     let w = λ (r : Running) (e : slice_get m.tasks t ≡ Some r). a.1.wishes r e in
     let n = acts P code lines (events_of run.history) run.strands m t x.before x.after (Ends value) [] of a.1.stands x.present runs x.fed (x.strand_is ∙ y.same) (ended_same _ _ true x.fed.spot refl)
-        (λ r e l. (record { stop = (w r e).0; stands = at_event r.state (w r e).0 (w r e).1; answers = (w r e).2; permits = tt }, tt)) in
+    (λ r e l. (record { stop = (w r e).0; stands = at_event r.state (w r e).0 (w r e).1; answers = (w r e).2; permits = tt }, tt)) in
     (n.0, same_stands P code _ _ _ _ _ _ n.0 (x.lines ∙ sym (append-nil (slice_set lines t x.after))) x.event (x.strands ∙ sym (add-zero run.strands)) n.1)
 
 pub sync_keeps : (code : Compiled) (run next : Progress) (t : ℕ) → IsLastRunning run.lines.items t → Asks code run t wish.Sync → Synced code run next t → Keeps code next.lines.items (events_of next.history) next.strands
@@ -105,7 +105,7 @@ sync_keeps code run next t last asks y P of =
     let runs : x.before.task.spot.ended ≡ false = subst (λ (l : Line). l.task.spot.ended ≡ false) (some_same last.0.0 x.before (sym last.0.1 ∙ x.present)) last.0.2 in
     let w = λ (r : Running) (e : slice_get m.tasks t ≡ Some r). a.1.wishes r e in
     let n = acts P code lines (events_of run.history) run.strands m t x.before x.after (Syncs run.strands) [] of a.1.stands x.present runs x.fed x.strand_is (ended_same _ _ false x.fed.spot runs)
-        (λ r e l. (record { stop = (w r e).0; stands = at_event r.state (w r e).0 (w r e).1; answers = (w r e).2; permits = sync_permitted P code lines (events_of run.history) run.strands m t r a.1.stands e last.1 }, tt)) in
+    (λ r e l. (record { stop = (w r e).0; stands = at_event r.state (w r e).0 (w r e).1; answers = (w r e).2; permits = sync_permitted P code lines (events_of run.history) run.strands m t r a.1.stands e last.1 }, tt)) in
     (n.0, same_stands P code _ _ _ _ _ _ n.0 (ap (λ v. v.items) y.lines ∙ (x.lines ∙ sym (append-nil (slice_set lines t x.after)))) (ap events_of y.history ∙ x.event) y.strands n.1)
 
 pub spawn_keeps : (code : Compiled) (run next : Progress) (t which : ℕ) → IsLastRunning run.lines.items t → Asks code run t (wish.Spawn which) → Spawned code run next t which → Keeps code next.lines.items (events_of next.history) next.strands
@@ -117,10 +117,10 @@ spawn_keeps code run next t which last asks x P of =
     let w = λ (r : Running) (e : slice_get m.tasks t ≡ Some r). a.1.wishes r e in
     let count = count_lines P code lines m.tasks a.1.stands.lines_are in
     let n = acts P code lines (events_of run.history) run.strands m t x.before x.after (Spawns which (length lines) run.strands (run.strands + 1) []) (x.child ∷ []) of a.1.stands x.present runs x.fed x.strand_is (ended_same _ _ false x.fed.spot runs)
-        (λ r e l. (
-          record { stop = (w r e).0; stands = at_event r.state (w r e).0 (w r e).2; answers = (w r e).3 ∙ ap (λ given. ToSpawn which given) (no_args P code l.args x.before.task r.state (w r e).0 which (w r e).1 runs l.task (at_event r.state (w r e).0 (w r e).2) (w r e).3); permits = (count, a.1.stands.strands_are, ap (λ k. k + 1) a.1.stands.strands_are) },
-          (record { args = []; task = x.child_begins P of; strand = x.child_strand; ended = x.child_runs }, tt),
-        )) in
+    (λ r e l. (
+      record { stop = (w r e).0; stands = at_event r.state (w r e).0 (w r e).2; answers = (w r e).3 ∙ ap (λ given. ToSpawn which given) (no_args P code l.args x.before.task r.state (w r e).0 which (w r e).1 runs l.task (at_event r.state (w r e).0 (w r e).2) (w r e).3); permits = (count, a.1.stands.strands_are, ap (λ k. k + 1) a.1.stands.strands_are) },
+      (record { args = []; task = x.child_begins P of; strand = x.child_strand; ended = x.child_runs }, tt),
+    )) in
     (n.0, same_stands P code _ _ _ _ _ _ n.0 x.lines x.event x.strands n.1)
 
 -- the last task that runs never makes the greatest number of local steps

@@ -46,8 +46,20 @@ impl Verdict {
         ensures { Writes (K.held out.old) (K.held out.new) (K.faults out.old) (K.faults out.new) (verdict_text self.now.status self.now.program.items (events_of self.now.history) self.now.races.items) result }
     {
         match self.status {
-            Status::Clean | Status::Raced => write_run(out, self.program.as_slice(), &self.history, &self.races, Finish::Whole),
-            Status::Spent { finish } => write_run(out, self.program.as_slice(), &self.history, &self.races, finish),
+            Status::Clean | Status::Raced => write_run(
+                out,
+                self.program.as_slice(),
+                &self.history,
+                &self.races,
+                Finish::Whole,
+            ),
+            Status::Spent { finish } => write_run(
+                out,
+                self.program.as_slice(),
+                &self.history,
+                &self.races,
+                finish,
+            ),
             Status::ReadFault => write_text(out, b"read fault\n"),
             Status::WriteFault => Wrote::All,
             Status::NoMemory => write_text(out, b"no memory\n"),
@@ -69,8 +81,17 @@ pub fn judge<S: Source>(alloc: Global, words: &Words, source: &mut S) -> Verdict
     }
     match read_all(alloc, source, LONGEST) {
         Input::Whole(program) => {
-            let Outcome { status, history, races } = outcome_of(alloc, program.as_slice());
-            Verdict { status, history, races, program }
+            let Outcome {
+                status,
+                history,
+                races,
+            } = outcome_of(alloc, program.as_slice());
+            Verdict {
+                status,
+                history,
+                races,
+                program,
+            }
         }
         Input::TooLong => Verdict::of(alloc, Status::Unbuilt),
         Input::Failed => Verdict::of(alloc, Status::ReadFault),

@@ -15,15 +15,14 @@ mod tests;
 mod top;
 mod words;
 
-use crate::top::forder;
 use crate::status::{Ended, Status};
+use crate::top::forder;
 use crate::words::Words;
 use fut_base::gate::FreeGate;
 use fut_base::standard::{StdSink, StdSource};
-use std::env;
 use std::env::Env;
-use std::io;
 use std::process::ExitCode;
+use std::{env, io};
 
 /// The words after the program's name.
 enum Given {

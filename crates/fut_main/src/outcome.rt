@@ -95,6 +95,8 @@ fn ending(finish: Finish, races: &Races) -> Status
                 Status::Raced
             }
         }
-        Finish::Events { .. } | Finish::Local { .. } | Finish::Futures { .. } => Status::Spent { finish },
+        Finish::Events { .. } | Finish::Local { .. } | Finish::Futures { .. } => Status::Spent {
+            finish,
+        },
     }
 }

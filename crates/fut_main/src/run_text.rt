@@ -58,24 +58,66 @@ fn write_act<K: Sink>(out: &mut K, act: &Act) -> Wrote
     match act {
         Act::Read { cell, value } => {
             let cell = Piece::Number(*cell);
-            let line = [Piece::Bytes(b"read "), cell, Piece::Bytes(b" "), Piece::Signed(*value), end];
+            let line = [
+                Piece::Bytes(b"read "),
+                cell,
+                Piece::Bytes(b" "),
+                Piece::Signed(*value),
+                end,
+            ];
             write_pieces(out, &line)
         }
         Act::Write { cell, value } => {
             let cell = Piece::Number(*cell);
-            let line = [Piece::Bytes(b"write "), cell, Piece::Bytes(b" "), Piece::Signed(*value), end];
+            let line = [
+                Piece::Bytes(b"write "),
+                cell,
+                Piece::Bytes(b" "),
+                Piece::Signed(*value),
+                end,
+            ];
             write_pieces(out, &line)
         }
-        Act::Spawn { code, child, kid, cont, args } => write_call(out, b"spawn ", *code, *child, *kid, *cont, args),
-        Act::Create { code, child, kid, cont, args } => write_call(out, b"create ", *code, *child, *kid, *cont, args),
-        Act::Sync { strand } => write_pieces(out, &[Piece::Bytes(b"sync s"), Piece::Number(*strand), end]),
-        Act::Get { future, value, strand } => {
+        Act::Spawn {
+            code,
+            child,
+            kid,
+            cont,
+            args,
+        } => write_call(out, b"spawn ", *code, *child, *kid, *cont, args),
+        Act::Create {
+            code,
+            child,
+            kid,
+            cont,
+            args,
+        } => write_call(out, b"create ", *code, *child, *kid, *cont, args),
+        Act::Sync { strand } => write_pieces(
+            out,
+            &[Piece::Bytes(b"sync s"), Piece::Number(*strand), end],
+        ),
+        Act::Get {
+            future,
+            value,
+            strand,
+        } => {
             let future = Piece::Number(*future);
             let strand = Piece::Number(*strand);
-            let line = [Piece::Bytes(b"get f"), future, Piece::Bytes(b" "), Piece::Datum(*value), Piece::Bytes(b" s"), strand, end];
+            let line = [
+                Piece::Bytes(b"get f"),
+                future,
+                Piece::Bytes(b" "),
+                Piece::Datum(*value),
+                Piece::Bytes(b" s"),
+                strand,
+                end,
+            ];
             write_pieces(out, &line)
         }
-        Act::End { value } => write_pieces(out, &[Piece::Bytes(b"end "), Piece::Datum(*value), end]),
+        Act::End { value } => write_pieces(
+            out,
+            &[Piece::Bytes(b"end "), Piece::Datum(*value), end],
+        ),
     }
 }
 
@@ -199,7 +241,11 @@ fn write_program<K: Sink>(out: &mut K, program: &[u8], entries: usize) -> Wrote
 fn write_end<K: Sink>(out: &mut K, races: &Races, finish: Finish) -> Wrote
     ensures { Writes (K.held out.old) (K.held out.new) (K.faults out.old) (K.faults out.new) (end_text races.now.items finish) result }
 {
-    let head = [Piece::Bytes(b"races "), Piece::Count(races.len()), Piece::Bytes(b"\n")];
+    let head = [
+        Piece::Bytes(b"races "),
+        Piece::Count(races.len()),
+        Piece::Bytes(b"\n"),
+    ];
     match write_pieces(out, &head) {
         Wrote::All => match write_races(out, races) {
             Wrote::All => write_last(out, finish),

@@ -43,16 +43,34 @@ fn copy_of(alloc: Global, task: u32, strand: u32, act: &Act) -> Result<Entry, No
     ensures { IfOk result (λ e. (event_of e).task ≡ task × (event_of e).strand ≡ strand × action_of e.act ≡ action_of act.now) }
 {
     let act = match act {
-        Act::Read { cell, value } => Act::Read { cell: *cell, value: *value },
-        Act::Write { cell, value } => Act::Write { cell: *cell, value: *value },
-        Act::Spawn { code, child, kid, cont, args } => Act::Spawn {
+        Act::Read { cell, value } => Act::Read {
+            cell: *cell,
+            value: *value,
+        },
+        Act::Write { cell, value } => Act::Write {
+            cell: *cell,
+            value: *value,
+        },
+        Act::Spawn {
+            code,
+            child,
+            kid,
+            cont,
+            args,
+        } => Act::Spawn {
             code: *code,
             child: *child,
             kid: *kid,
             cont: *cont,
             args: args.copy(alloc)?,
         },
-        Act::Create { code, child, kid, cont, args } => Act::Create {
+        Act::Create {
+            code,
+            child,
+            kid,
+            cont,
+            args,
+        } => Act::Create {
             code: *code,
             child: *child,
             kid: *kid,
@@ -60,7 +78,11 @@ fn copy_of(alloc: Global, task: u32, strand: u32, act: &Act) -> Result<Entry, No
             args: args.copy(alloc)?,
         },
         Act::Sync { strand } => Act::Sync { strand: *strand },
-        Act::Get { future, value, strand } => Act::Get {
+        Act::Get {
+            future,
+            value,
+            strand,
+        } => Act::Get {
             future: *future,
             value: *value,
             strand: *strand,
@@ -248,11 +270,7 @@ fn sync(run: &mut Progress, alloc: Global, code: &Code, task: usize) -> Result<(
 }
 
 /// The run of a program's code, up to `bound` entries.
-pub fn run_serially(
-    alloc: Global,
-    code: &Code,
-    bound: u32,
-) -> Result<Finished, NoMemory>
+pub fn run_serially(alloc: Global, code: &Code, bound: u32) -> Result<Finished, NoMemory>
     requires program { (P : tree.Program) × IsCodeOf P code.now }
     requires bound { bound ≤ 1000000 }
     ensures ends { IfOk result (λ r. (P : tree.Program) → IsCodeOf P code.now → EndsSo P bound (events_of r.history) r.finish) }
@@ -262,12 +280,21 @@ pub fn run_serially(
     for _made in 0..bound {
         match last_running(&run) {
             Some(task) => step(&mut run, alloc, code, task)?,
-            None => return Ok(Finished { history: run.history, finish: Finish::Whole }),
+            None => return Ok(Finished {
+                history: run.history,
+                finish: Finish::Whole,
+            }),
         }
     }
     match last_running(&run) {
-        Some(_) => Ok(Finished { history: run.history, finish: Finish::Events { bound } }),
-        None => Ok(Finished { history: run.history, finish: Finish::Whole }),
+        Some(_) => Ok(Finished {
+            history: run.history,
+            finish: Finish::Events { bound },
+        }),
+        None => Ok(Finished {
+            history: run.history,
+            finish: Finish::Whole,
+        }),
     }
 }
 

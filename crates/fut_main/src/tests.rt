@@ -12,16 +12,21 @@ use std::test::Fail;
 const RUN: [&str; 3] = ["run", "--workers", "1"];
 
 /// A child writes, and its parent before it waits.
-const RACE: &str = "cells a[1];\ntask kid() int { a[0] = 1; return 0; }\ntask main() int { spawn kid(); a[0] = 2; sync; return 0; }\n";
+const RACE: &str =
+    "cells a[1];\ntask kid() int { a[0] = 1; return 0; }\ntask main() int { spawn kid(); a[0] = 2; sync; return 0; }\n";
 
 /// The same, and the parent waits first.
-const SYNC: &str = "cells a[1];\ntask kid() int { a[0] = 1; return 0; }\ntask main() int { spawn kid(); sync; a[0] = 2; return 0; }\n";
+const SYNC: &str =
+    "cells a[1];\ntask kid() int { a[0] = 1; return 0; }\ntask main() int { spawn kid(); sync; a[0] = 2; return 0; }\n";
 
-const RACE_RECORD: &str = "forder 1\nprogram 110\ncells a[1];\ntask kid() int { a[0] = 1; return 0; }\ntask main() int { spawn kid(); a[0] = 2; sync; return 0; }\n\nentries 6\n0 t0 s0 spawn 0 t1 s1 s2\n1 t1 s1 write 0 1\n2 t1 s1 end 0\n3 t0 s2 write 0 2\n4 t0 s2 sync s3\n5 t0 s3 end 0\nraces 1\nrace 0 1 3\nfinish whole\nend\n";
+const RACE_RECORD: &str =
+    "forder 1\nprogram 110\ncells a[1];\ntask kid() int { a[0] = 1; return 0; }\ntask main() int { spawn kid(); a[0] = 2; sync; return 0; }\n\nentries 6\n0 t0 s0 spawn 0 t1 s1 s2\n1 t1 s1 write 0 1\n2 t1 s1 end 0\n3 t0 s2 write 0 2\n4 t0 s2 sync s3\n5 t0 s3 end 0\nraces 1\nrace 0 1 3\nfinish whole\nend\n";
 
-const SYNC_RECORD: &str = "forder 1\nprogram 110\ncells a[1];\ntask kid() int { a[0] = 1; return 0; }\ntask main() int { spawn kid(); sync; a[0] = 2; return 0; }\n\nentries 6\n0 t0 s0 spawn 0 t1 s1 s2\n1 t1 s1 write 0 1\n2 t1 s1 end 0\n3 t0 s2 sync s3\n4 t0 s3 write 0 2\n5 t0 s3 end 0\nraces 0\nfinish whole\nend\n";
+const SYNC_RECORD: &str =
+    "forder 1\nprogram 110\ncells a[1];\ntask kid() int { a[0] = 1; return 0; }\ntask main() int { spawn kid(); sync; a[0] = 2; return 0; }\n\nentries 6\n0 t0 s0 spawn 0 t1 s1 s2\n1 t1 s1 write 0 1\n2 t1 s1 end 0\n3 t0 s2 sync s3\n4 t0 s3 write 0 2\n5 t0 s3 end 0\nraces 0\nfinish whole\nend\n";
 
-const ONE_RECORD: &str = "forder 1\nprogram 29\ntask main() int { return 0; }\nentries 1\n0 t0 s0 end 0\nraces 0\nfinish whole\nend\n";
+const ONE_RECORD: &str =
+    "forder 1\nprogram 29\ntask main() int { return 0; }\nentries 1\n0 t0 s0 end 0\nraces 0\nfinish whole\nend\n";
 
 /// What came of a call.
 #[derive(Drop)]
@@ -46,8 +51,7 @@ fn call_forder(
     }
     let mut source = MemSource::make(alloc, text.as_bytes(), most.max(1), take_fails)?;
     let mut out = MemSink::make(alloc, 1_000_000, most.max(1), put_fails)?;
-    let Ended { status, history } =
-        forder(&(), alloc, &given, &mut source, &mut out, &FreeGate);
+    let Ended { status, history } = forder(&(), alloc, &given, &mut source, &mut out, &FreeGate);
     let text = Vec::from_slice(alloc, out.bytes())?;
     Ok(Answer {
         status,
@@ -67,9 +71,21 @@ fn records_of_runs(rt: HostRuntime) -> Result<(), Fail> {
         ("task main() int { return 0; }", Status::Clean, ONE_RECORD),
         (RACE, Status::Raced, RACE_RECORD),
         (SYNC, Status::Clean, SYNC_RECORD),
-        ("task main() int { return 1 + 1; }", Status::Unbuilt, "not built\n"),
-        ("task main() int { return 0; } // a comment", Status::Unbuilt, "not built\n"),
-        ("task main() int { retrun 0; }", Status::Unbuilt, "not built\n"),
+        (
+            "task main() int { return 1 + 1; }",
+            Status::Unbuilt,
+            "not built\n",
+        ),
+        (
+            "task main() int { return 0; } // a comment",
+            Status::Unbuilt,
+            "not built\n",
+        ),
+        (
+            "task main() int { retrun 0; }",
+            Status::Unbuilt,
+            "not built\n",
+        ),
         ("", Status::Unbuilt, "not built\n"),
     ];
     for (text, status, record) in cases {
@@ -120,7 +136,10 @@ fn a_sink_that_fails(rt: HostRuntime) -> Result<(), Fail> {
         let answer = call_forder(rt.alloc(), &RUN, RACE, 16, &[], &[call])?;
         assert_eq!(rt; answer.status, Status::WriteFault, "call {call}");
         assert_eq!(rt; answer.entries, 6);
-        assert!(rt; RACE_RECORD.as_bytes().starts_with(answer.text.as_slice()), "call {call}");
+        assert!(rt;
+            RACE_RECORD.as_bytes().starts_with(answer.text.as_slice()),
+            "call {call}"
+        );
     }
     // the head `forder 1`, `program ` is one piece of 17 bytes
     let answer = call_forder(rt.alloc(), &RUN, RACE, 16, &[], &[1])?;
@@ -136,12 +155,23 @@ fn a_run_that_is_spent(rt: HostRuntime) -> Result<(), Fail> {
     record.push_str(text)?;
     record.push_str("\nentries 1000\n0 t0 s0 spawn 0 t1 s1 s2\n")?;
     for k in 1u64..1000 {
-        let line = format!(in alloc; "{k} t{k} s{} spawn 0 t{} s{} s{}\n", 2 * k - 1, k + 1, 2 * k + 1, 2 * k + 2)?;
+        let line = format!(in alloc;
+            "{k} t{k} s{} spawn 0 t{} s{} s{}\n",
+            2 * k - 1,
+            k + 1,
+            2 * k + 1,
+            2 * k + 2
+        )?;
         record.push_str(line.as_str())?;
     }
     record.push_str("races 0\nfinish events 1000\nend\n")?;
     let answer = run(alloc, text)?;
-    assert_eq!(rt; answer.status, Status::Spent { finish: Finish::Events { bound: 1000 } });
+    assert_eq!(rt;
+        answer.status,
+        Status::Spent {
+            finish: Finish::Events { bound: 1000 }
+        }
+    );
     assert_eq!(rt; answer.entries, 1000);
     assert_eq!(rt; answer.text.as_slice(), record.as_bytes());
     Ok(())
