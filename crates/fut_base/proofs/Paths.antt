@@ -2,7 +2,7 @@
 use Rattle.std.proofs.Common.{◌≡◌, ℕ, Bool, true, false, List, [], ◌∷◌, inl, inr, sym, subst, refl}
 use Rattle.std.specs.Prelude.{not, ◌||◌, ◌&&◌, slice_get, Some}
 use Rattle.fut_base.specs.Events.{Event}
-use Rattle.fut_base.specs.Dag.{edges_of, Among, IsPath, ReachesBy, AreJoined}
+use Rattle.fut_base.specs.Dag.{Among, IsPath, ReachesBy, AreJoined}
 use Rattle.fut_base.specs.Racing.{PlacesRace}
 
 -- an edge that begins in the set ends in it

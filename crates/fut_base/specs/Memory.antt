@@ -1,5 +1,5 @@
 -- The source and the sink in memory, as contracts see them.
-use Rattle.std.specs.Prelude.{◌≡◌, ℕ, ◌<◌, min, Bool, true, false, List, [], length, Contains, ◌⊎◌}
+use Rattle.std.specs.Prelude.{◌≡◌, ℕ, min, Bool, List, [], length, Contains, ◌⊎◌}
 use Rattle.fut_base.specs.declared.ports.Took.{Took}
 use Rattle.fut_base.specs.declared.ports.Took.TheVariants as took
 use Rattle.fut_base.specs.declared.ports.Put.{Put}

@@ -4,7 +4,9 @@ use crate::top::forder;
 use crate::words::Words;
 use fut_base::gate::FreeGate;
 use fut_base::memory::{MemSink, MemSource};
+use fut_base::ports::{Put, Sink, Source, Took};
 use fut_base::record::Finish;
+use fut_base::standard::{StdSink, StdSource};
 use std::alloc::Global;
 use std::test::Fail;
 
@@ -189,5 +191,21 @@ fn the_longest_text(rt: HostRuntime) -> Result<(), Fail> {
     text.push_str(" ")?;
     let answer = run(alloc, text.as_str())?;
     assert_eq!(rt; answer.status, Status::Unbuilt);
+    Ok(())
+}
+
+#[test]
+fn standard_streams(rt: HostRuntime) -> Result<(), Fail> {
+    let alloc = rt.alloc();
+    let mut source = StdSource::make(b"abc".as_slice());
+    let mut buffer = [0u8; 2];
+    assert!(rt; matches!(source.take(&mut buffer), Took::Bytes(2)));
+    assert_eq!(rt; buffer.as_slice(), b"ab".as_slice());
+    assert!(rt; matches!(source.take(&mut buffer), Took::Bytes(1)));
+    assert!(rt; matches!(source.take(&mut buffer), Took::End));
+    let mut bytes = Vec::new(alloc);
+    let mut out = StdSink::make(&mut bytes);
+    assert!(rt; matches!(out.put(b"ab"), Put::Took(2)));
+    assert_eq!(rt; bytes.as_slice(), b"ab".as_slice());
     Ok(())
 }
