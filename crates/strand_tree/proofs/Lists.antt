@@ -1,17 +1,8 @@
--- Lists of items are lists of strands, and two items that are put into them one after the other.
-use Rattle.std.proofs.Common.{◌≡◌, ℕ, ◌≤◌, not, ◌&&◌, List, [], ◌∷◌, ◌++◌, length, ap, refl, ◌∙◌, arith, ◌==◌, if◌then◌else◌}
-use Rattle.order_list.specs.Ordered as items
+-- Two items that are put into a list one after the other.
+use Rattle.std.proofs.Common.{◌≡◌, ℕ, ◌≤◌, List, [], ◌∷◌, length, ap, refl, ◌∙◌, arith, ◌==◌, if◌then◌else◌}
 use Rattle.order_list.specs.Ordered.{AllBelow, IsNumbered}
-use Rattle.fut_base.specs.Orders.{put_after, stands_before, is_in}
+use Rattle.fut_base.specs.Orders.{put_after}
 use Rattle.strand_laws.proofs.Places.{by_eq}
-
-pub same_put : (x : ℕ) (new xs : List ℕ) → items.put_after x new xs ≡ put_after x new xs
-same_put x new [] = refl
-same_put x new (z ∷ zs) = ap (λ r. z ∷ (if z == x then new ++ zs else r)) (same_put x new zs)
-
-pub same_before : (x y : ℕ) (xs : List ℕ) → items.stands_before x y xs ≡ stands_before x y xs
-same_before x y [] = refl
-same_before x y (z ∷ zs) = ap (λ r. if z == x then is_in y zs else (not (z == y) && r)) (same_before x y zs)
 
 head_then : (a b : ℕ) (zs : List ℕ) → put_after a (b ∷ []) (a ∷ zs) ≡ a ∷ b ∷ zs
 head_then a b zs = by_eq (λ t. a ∷ (if t then b ∷ zs else put_after a (b ∷ []) zs) ≡ a ∷ b ∷ zs) a a (λ _. refl) (λ ne. absurd (ne refl))
@@ -35,15 +26,15 @@ both_after x a b (z ∷ zs) =
     (λ _. refl) (λ _. ap (λ r. z ∷ r) (both_after x a b zs))
 
 -- a kid after x and a continuation after the kid
-pub english_fork : (at x y kid cont : ℕ) (old mid new : List ℕ) → x ≡ at → y ≡ kid → IsNumbered old → kid ≡ length old → mid ≡ items.put_after x (kid ∷ []) old → new ≡ items.put_after y (cont ∷ []) mid → new ≡ put_after at (kid ∷ cont ∷ []) old
+pub english_fork : (at x y kid cont : ℕ) (old mid new : List ℕ) → x ≡ at → y ≡ kid → IsNumbered old → kid ≡ length old → mid ≡ put_after x (kid ∷ []) old → new ≡ put_after y (cont ∷ []) mid → new ≡ put_after at (kid ∷ cont ∷ []) old
 english_fork at x y kid cont old mid new x_is y_is numbered next mid_is new_is =
-    let first : mid ≡ put_after at (kid ∷ []) old = mid_is ∙ same_put x (kid ∷ []) old ∙ ap (λ v. put_after v (kid ∷ []) old) x_is in
-    let second : new ≡ put_after kid (cont ∷ []) mid = new_is ∙ same_put y (cont ∷ []) mid ∙ ap (λ v. put_after v (cont ∷ []) mid) y_is in
+    let first : mid ≡ put_after at (kid ∷ []) old = mid_is ∙ ap (λ v. put_after v (kid ∷ []) old) x_is in
+    let second : new ≡ put_after kid (cont ∷ []) mid = new_is ∙ ap (λ v. put_after v (cont ∷ []) mid) y_is in
     second ∙ ap (put_after kid (cont ∷ [])) first ∙ two_after at kid cont (length old) old numbered.below (omega (arith, next))
 
 -- a kid after x and a continuation after x
-pub hebrew_fork : (at x y kid cont : ℕ) (old mid new : List ℕ) → x ≡ at → y ≡ at → mid ≡ items.put_after x (kid ∷ []) old → new ≡ items.put_after y (cont ∷ []) mid → new ≡ put_after at (cont ∷ kid ∷ []) old
+pub hebrew_fork : (at x y kid cont : ℕ) (old mid new : List ℕ) → x ≡ at → y ≡ at → mid ≡ put_after x (kid ∷ []) old → new ≡ put_after y (cont ∷ []) mid → new ≡ put_after at (cont ∷ kid ∷ []) old
 hebrew_fork at x y kid cont old mid new x_is y_is mid_is new_is =
-    let first : mid ≡ put_after at (kid ∷ []) old = mid_is ∙ same_put x (kid ∷ []) old ∙ ap (λ v. put_after v (kid ∷ []) old) x_is in
-    let second : new ≡ put_after at (cont ∷ []) mid = new_is ∙ same_put y (cont ∷ []) mid ∙ ap (λ v. put_after v (cont ∷ []) mid) y_is in
+    let first : mid ≡ put_after at (kid ∷ []) old = mid_is ∙ ap (λ v. put_after v (kid ∷ []) old) x_is in
+    let second : new ≡ put_after at (cont ∷ []) mid = new_is ∙ ap (λ v. put_after v (cont ∷ []) mid) y_is in
     second ∙ ap (put_after at (cont ∷ [])) first ∙ both_after at kid cont old

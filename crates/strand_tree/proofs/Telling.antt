@@ -6,11 +6,10 @@ use Rattle.fut_base.specs.Orders.{stands_before, english_of, hebrew_of, precedes
 use Rattle.fut_base.specs.Sound.{InnerReaches}
 use Rattle.strand_laws.proofs.Inside.{precedes_means_path}
 use Rattle.strand_tree.specs.Paths.{TellsPaths}
-use Rattle.strand_tree.proofs.Lists.{same_before}
 
 pub tells_paths : (sides : Sides) (answer : Bool) → answer ≡ (sides.english && sides.hebrew) → TellsPaths sides answer
 tells_paths sides answer is s u v sound two are =
-    let first : sides.english ≡ stands_before u v (english_of s) = are.first ∙ same_before u v (english_of s) in
-    let second : sides.hebrew ≡ stands_before u v (hebrew_of s) = are.second ∙ same_before u v (hebrew_of s) in
+    let first : sides.english ≡ stands_before u v (english_of s) = are.first in
+    let second : sides.hebrew ≡ stands_before u v (hebrew_of s) = are.second in
     let all : answer ≡ precedes s u v = is ∙ ap (λ b. b && sides.hebrew) first ∙ ap (λ b. stands_before u v (english_of s) && b) second in
     subst (λ b. (b ≡ true) ↔ InnerReaches (reverse s) u v) (sym all) (precedes_means_path (reverse s) sound u v two.strands two.home two.differ)
