@@ -25,12 +25,20 @@ abbrev pub tested_params : Option Signature → ℕ → List Param
 tested_params None count = []
 tested_params (Some s) count = if nat_eq (length s.params) count then s.params else []
 
+-- what the next argument has to be, if its need is tested
+abbrev pub next_need : List Param → Option Need
+next_need [] = None
+next_need (p ∷ ps) = Some (argument_need (kind_of p.type))
+
+-- the parameters of the arguments after the next one
+abbrev pub later : List Param → List Param
+later [] = []
+later (p ∷ ps) = ps
+
 -- the faults of arguments; each has a comma or the closing bracket behind it
 abbrev pub args_faults : List Variable → ℕ → List Param → List Expr → List Fault
 args_faults vs n ps [] = []
-args_faults vs n [] (e ∷ es) = needed_faults vs n None e ++ args_faults vs (n + expr_width e + 1) [] es
-args_faults vs n (p ∷ ps) (e ∷ es) =
-    needed_faults vs n (Some (argument_need (kind_of p.type))) e ++ args_faults vs (n + expr_width e + 1) ps es
+args_faults vs n ps (e ∷ es) = needed_faults vs n (next_need ps) e ++ args_faults vs (n + expr_width e + 1) (later ps) es
 
 -- the faults of a call whose word has this number
 abbrev pub call_faults : List Item → List Variable → ℕ → List ℕ → List Expr → List Fault
@@ -48,10 +56,10 @@ abbrev pub got_of : Option Kind → Option Kind
 got_of None = None
 got_of (Some k) = got k
 
--- what `create` gives: the depth is one more than that of the result
+-- what `create` gives: a handle of the task's result
 abbrev pub created : Option Signature → Option Kind
 created None = None
-created (Some s) = Some (kind.Handle (s.result + 1))
+created (Some s) = Some (kind.Handle s.result)
 
 -- the type of an init; it has none where it hangs on an unknown or wrong word
 abbrev pub init_kind : List Item → List Variable → Init → Option Kind

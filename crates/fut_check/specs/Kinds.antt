@@ -1,5 +1,5 @@
 -- The types of variables, parameters and expressions, and the table of needs.
-use Rattle.std.specs.Prelude.{ℕ, zero, suc, ◌+◌, ◌-◌, Bool, true, false, nat_eq, if◌then◌else◌, Option, Some, None}
+use Rattle.std.specs.Prelude.{ℕ, zero, suc, Bool, true, false, nat_eq, if◌then◌else◌, Option, Some, None}
 use Rattle.fut_syntax.specs.Trees.{VarType, Plain, Array}
 use Rattle.fut_check.specs.declared.kind.Kind.{Kind}
 use Rattle.fut_check.specs.declared.kind.Kind.TheVariants as kind
@@ -8,10 +8,10 @@ use Rattle.fut_check.specs.declared.kind.Need.TheVariants as need
 use Rattle.fut_check.specs.declared.fault.Rule.{Rule}
 use Rattle.fut_check.specs.declared.fault.Rule.TheVariants as rule
 
--- `int` behind so many `fut`: int, or a handle of this depth
+-- `int` behind so many `fut`: int, or a handle of what has one `fut` less
 abbrev pub plain : ℕ → Kind
 plain zero = kind.Int
-plain (suc d) = kind.Handle (suc d)
+plain (suc d) = kind.Handle d
 
 -- a type as it is written
 abbrev pub kind_of : VarType → Kind
@@ -24,10 +24,10 @@ size kind.Int = 1
 size (kind.Handle d) = 1
 size (kind.Array d n) = n
 
--- what `get` gives of a handle: the depth is one less, and int has depth 0
+-- what `get` gives of a handle
 abbrev pub got : Kind → Option Kind
 got kind.Int = None
-got (kind.Handle d) = Some (plain (d - 1))
+got (kind.Handle d) = Some (plain d)
 got (kind.Array d n) = None
 
 -- what an argument for a parameter of this type has to be
@@ -36,11 +36,11 @@ argument_need kind.Int = need.Int
 argument_need (kind.Handle d) = need.Handle d
 argument_need (kind.Array d n) = need.Array d n
 
--- what the init of a variable of this type has to be: for an array one handle, which fills all elements
+-- what the init of a variable of this type has to be: for an array one element, which fills it
 abbrev pub init_need : Kind → Need
 init_need kind.Int = need.Int
 init_need (kind.Handle d) = need.Handle d
-init_need (kind.Array d n) = need.Handle d
+init_need (kind.Array d n) = argument_need (plain d)
 
 -- the table of needs: the rule that is broken where something of a type stands in a place with a need
 abbrev pub need_rule : Need → Kind → Option Rule
@@ -63,13 +63,13 @@ unmet None given = None
 unmet (Some n) None = None
 unmet (Some n) (Some k) = need_rule n k
 
--- a returned expression is of the task's result, so many `fut` before `int`
-abbrev pub is_result : ℕ → Kind → Bool
-is_result d kind.Int = nat_eq d 0
-is_result d (kind.Handle e) = nat_eq d e
-is_result d (kind.Array e m) = false
+-- a returned expression is of the task's result
+abbrev pub is_result : Kind → Kind → Bool
+is_result kind.Int kind.Int = true
+is_result (kind.Handle d) (kind.Handle e) = nat_eq d e
+is_result _ _ = false
 
--- the rule that a returned expression breaks, where it has a type
+-- the rule that a returned expression breaks, where it has a type and the task's result so many `fut` before `int`
 abbrev pub result_rule : ℕ → Option Kind → Option Rule
 result_rule d None = None
-result_rule d (Some k) = if is_result d k then None else Some rule.ResultType
+result_rule d (Some k) = if is_result (plain d) k then None else Some rule.ResultType

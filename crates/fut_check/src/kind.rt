@@ -6,11 +6,13 @@ ghost use Rattle.fut_check.specs.Kinds as spec;
 use crate::fault::Rule;
 use fut_syntax::tree::VarType;
 
-/// The type of a variable, a parameter or an expression. A handle's depth is the number of `fut`, from 1 on.
+/// The type of a variable, a parameter or an expression.
 #[derive(Clone, Copy, Debug)]
 pub enum Kind {
     Int,
-    Handle { depth: u64 },
+    /// A handle of what has so many `fut` before `int`, that is one less than the handle itself.
+    Handle { inside: u64 },
+    /// An array whose elements have so many `fut` before `int`, and its length.
     Array { depth: u64, length: u64 },
 }
 
@@ -18,8 +20,10 @@ pub enum Kind {
 #[derive(Clone, Copy, Debug)]
 pub enum Need {
     Int,
-    Handle { depth: u64 },
+    /// A handle of what has so many `fut` before `int`.
+    Handle { inside: u64 },
     AnyHandle,
+    /// An array whose elements have so many `fut` before `int`, and its length.
     Array { depth: u64, length: u64 },
 }
 
@@ -30,7 +34,7 @@ pub fn plain(depth: u64) -> Kind
     if depth == 0 {
         Kind::Int
     } else {
-        Kind::Handle { depth }
+        Kind::Handle { inside: depth - 1 }
     }
 }
 
@@ -61,7 +65,7 @@ impl Kind {
     {
         match self {
             Kind::Int | Kind::Array { .. } => None,
-            Kind::Handle { depth } => Some(plain(depth.saturating_sub(1))),
+            Kind::Handle { inside } => Some(plain(inside)),
         }
     }
 
@@ -71,7 +75,7 @@ impl Kind {
     {
         match self {
             Kind::Int => Need::Int,
-            Kind::Handle { depth } => Need::Handle { depth },
+            Kind::Handle { inside } => Need::Handle { inside },
             Kind::Array { depth, length } => Need::Array { depth, length },
         }
     }
@@ -82,19 +86,21 @@ impl Kind {
     {
         match self {
             Kind::Int => Need::Int,
-            Kind::Handle { depth } => Need::Handle { depth },
-            Kind::Array { depth, .. } => Need::Handle { depth },
+            Kind::Handle { inside } => Need::Handle { inside },
+            Kind::Array { depth, .. } => plain(depth).argument_need(),
         }
     }
 
-    /// Whether this is the task's result, which has so many `fut` before `int`.
-    fn is_result(self, depth: u64) -> bool
-        ensures { result ≡ spec.is_result depth self }
+    /// Whether something of a type may be returned where this is the task's result.
+    fn is_result(self, given: Kind) -> bool
+        ensures { result ≡ spec.is_result self given }
     {
-        match self {
-            Kind::Int => depth == 0,
-            Kind::Handle { depth: given } => depth == given,
-            Kind::Array { .. } => false,
+        match (self, given) {
+            (Kind::Int, Kind::Int) => true,
+            (Kind::Handle { inside }, Kind::Handle { inside: given }) => inside == given,
+            (Kind::Int, Kind::Handle { .. } | Kind::Array { .. }) => false,
+            (Kind::Handle { .. }, Kind::Int | Kind::Array { .. }) => false,
+            (Kind::Array { .. }, _) => false,
         }
     }
 }
@@ -109,8 +115,8 @@ impl Need {
             (Need::Int, Kind::Handle { .. }) => Some(Rule::HandleForInt),
             (Need::Int, Kind::Array { .. }) => Some(Rule::ArrayLength),
             (Need::Handle { .. }, Kind::Int) => Some(Rule::IntForHandle),
-            (Need::Handle { depth }, Kind::Handle { depth: given }) => {
-                broken_unless(depth == given, Rule::HandleDepth)
+            (Need::Handle { inside }, Kind::Handle { inside: given }) => {
+                broken_unless(inside == given, Rule::HandleDepth)
             }
             (Need::Handle { .. }, Kind::Array { .. }) => Some(Rule::ArrayLength),
             (Need::AnyHandle, Kind::Int) => Some(Rule::IntForHandle),
@@ -151,7 +157,7 @@ pub fn result_rule(depth: u64, given: Option<Kind>) -> Option<Rule>
     ensures { result ≡ spec.result_rule depth given }
 {
     match given {
-        Some(given) => broken_unless(given.is_result(depth), Rule::ResultType),
+        Some(given) => broken_unless(plain(depth).is_result(given), Rule::ResultType),
         None => None,
     }
 }

@@ -6,6 +6,7 @@
 
 mod exprs;
 pub mod fault;
+mod inits;
 mod kind;
 mod names;
 mod scope;
