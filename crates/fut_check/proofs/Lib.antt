@@ -3,3 +3,4 @@ pub mod Drops
 pub mod Least
 pub mod Slots
 pub mod Some
+pub mod Statements

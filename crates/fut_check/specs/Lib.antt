@@ -4,5 +4,6 @@ pub mod Inits
 pub mod Items
 pub mod Kinds
 pub mod Names
+pub mod Passing
 pub mod Stmts
 pub mod Widths

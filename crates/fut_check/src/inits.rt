@@ -1,5 +1,5 @@
 //! Goes over calls and what variables are set to.
-ghost use Rattle.std.specs.Prelude.{◌≡◌, ◌+◌, ◌≤◌, ◌++◌, None, Some, length};
+ghost use Rattle.std.specs.Prelude.{◌≡◌, ◌+◌, ◌≤◌, ◌<◌, ◌++◌, None, Some, length};
 ghost use Rattle.fut_syntax.specs.Views.{expr_tree, args_tree, init_tree, items_tree, params_tree};
 ghost use Rattle.fut_check.specs.Faults.{Walked, broken};
 ghost use Rattle.fut_check.specs.Names as names;
@@ -32,7 +32,7 @@ pub fn element(kind: Option<Kind>, is_cells: bool) -> Option<Kind>
 }
 
 /// The rule that a word before `[` breaks.
-pub fn element_rule(kind: Option<Kind>, is_cells: bool) -> Option<Rule>
+fn element_rule(kind: Option<Kind>, is_cells: bool) -> Option<Rule>
     ensures { result ≡ names.element_rule kind is_cells }
 {
     match kind {
@@ -48,6 +48,17 @@ pub fn element_rule(kind: Option<Kind>, is_cells: bool) -> Option<Rule>
     }
 }
 
+
+/// Notes what is wrong with the word before `[` at the next token.
+pub fn note_element(search: &mut Search, items: &[Item], variables: &[Variable], word: &[u8])
+    requires { search.old.at < search.old.end }
+    ensures { Walked search.old search.new 0 (broken (names.element_rule (names.kind_named variables.now word.now) (names.means_cells (declaration (items_tree items.now) word.now))) search.old.at) }
+{
+    let kind = kind_named(variables, word);
+    let is_cells = means_cells(items, word);
+    let at = search.at();
+    search.note(element_rule(kind, is_cells), at);
+}
 
 /// What the next argument has to be, if its need is tested.
 fn next_need(parameters: &[Param]) -> Option<Need>
@@ -181,10 +192,7 @@ fn walk_inside(search: &mut Search, items: &[Item], variables: &[Variable], init
             walk_call(search, items, variables, word.as_slice(), args.as_slice());
         }
         Init::Index(word, index) => {
-            let kind = kind_named(variables, word.as_slice());
-            let is_cells = means_cells(items, word.as_slice());
-            let first = search.at();
-            search.note(element_rule(kind, is_cells), first);
+            note_element(search, items, variables, word.as_slice());
             search.skip(2);
             walk_needed(search, variables, Some(Need::Int), index);
             search.skip(1);

@@ -4,6 +4,7 @@
 //! above use `Checked`, which is well-typed by its type, and the definitions `IsWellTyped` and `IsFirstFault` of `specs/`.
 #![tactic(auto)]
 
+mod declarations;
 mod exprs;
 pub mod fault;
 mod inits;
@@ -11,3 +12,4 @@ mod kind;
 mod names;
 mod scope;
 mod search;
+mod stmts;

@@ -40,7 +40,8 @@ impl Search {
 
     /// The number of the next token.
     pub fn at(&self) -> usize
-        ensures { result ≡ self.now.at }
+        ensures value { result ≡ self.now.at }
+        ensures small { self.now.end < 2 ^ 62 }
     {
         self.at
     }
@@ -96,6 +97,19 @@ impl Search {
     {
         if found {
             self.meet(Fault { token, rule });
+        }
+    }
+
+    /// Meets the fault of a rule at the token before which so many others stand from here, where a test finds it.
+    pub fn note_ahead(&mut self, found: bool, ahead: usize, rule: Rule)
+        requires { IsTrue found → self.old.at + ahead < self.old.end }
+        ensures { Walked self.old self.new 0 (fault_if found (self.old.at + ahead) rule) }
+    {
+        if found {
+            self.meet(Fault {
+                token: self.at + ahead,
+                rule,
+            });
         }
     }
 }
