@@ -1,4 +1,5 @@
 pub mod Args
+pub mod Bodies
 pub mod Drops
 pub mod Least
 pub mod Slots

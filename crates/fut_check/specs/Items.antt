@@ -5,6 +5,7 @@ use Rattle.fut_syntax.specs.Trees.{Param, Item, CellsOf, TaskOf, Block, Program}
 use Rattle.fut_check.specs.declared.fault.Fault.{Fault}
 use Rattle.fut_check.specs.declared.fault.Rule.{Rule}
 use Rattle.fut_check.specs.declared.fault.Rule.TheVariants as rule
+use Rattle.fut_check.specs.declared.kind.Kind.{Kind}
 use Rattle.fut_check.specs.declared.names.Variable.{Variable}
 use Rattle.fut_check.specs.Faults.{fault_if, IsFirst}
 use Rattle.fut_check.specs.Kinds.{kind_of, size}
@@ -17,13 +18,13 @@ abbrev pub param_variable : Param → Variable
 param_variable p = variable p.name p.type
 
 -- the ninth parameter, or one with which the argument values exceed 16
-abbrev pub is_over : List Variable → Variable → Bool
-is_over before x = nat_eq (length before) 8 || nat_lt 16 (slots before + size x.kind)
+abbrev pub is_over : List Variable → Kind → Bool
+is_over before kind = nat_eq (length before) 8 || nat_lt 16 (slots before + size kind)
 
 -- the faults of a parameter behind others
 abbrev pub param_faults : List Item → List Variable → ℕ → Param → List Fault
 param_faults globals before n p =
-    declared_faults globals before n (param_variable p) ++ fault_if (is_over before (param_variable p)) n rule.ConstantLimit
+    declared_faults globals before n (param_variable p) ++ fault_if (is_over before (kind_of p.type)) n rule.ConstantLimit
         ++ type_faults (n + 2) p.type
 
 -- the faults of parameters behind others
@@ -31,6 +32,10 @@ abbrev pub params_faults : List Item → List Variable → ℕ → List Param �
 params_faults globals before n [] = []
 params_faults globals before n (p ∷ ps) =
     param_faults globals before n p ++ params_faults globals (before ++ param_variable p ∷ []) (n + param_width p) ps
+
+-- the scope with a parameter
+abbrev pub with_param : Scope → Param → Scope
+with_param s p = record { returns = s.returns; visible = s.visible ++ param_variable p ∷ []; declared = s.declared ++ param_variable p ∷ [] }
 
 -- the variables that parameters are
 abbrev pub param_variables : List Param → List Variable
@@ -42,7 +47,11 @@ abbrev pub has_params : List Param → Bool
 has_params [] = false
 has_params (p ∷ ps) = true
 
--- the scope at the beginning of a task's body
+-- the scope with more parameters
+abbrev pub with_params : Scope → List Param → Scope
+with_params s ps = record { returns = s.returns; visible = s.visible ++ param_variables ps; declared = s.declared ++ param_variables ps }
+
+-- the scope at the beginning of a task's body, whose result has so many `fut`
 abbrev pub opening_scope : ℕ → List Param → Scope
 opening_scope d ps = record { returns = d; visible = param_variables ps; declared = param_variables ps }
 

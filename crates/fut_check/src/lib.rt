@@ -8,6 +8,7 @@ mod declarations;
 mod exprs;
 pub mod fault;
 mod inits;
+mod items;
 mod kind;
 mod names;
 mod scope;

@@ -203,7 +203,8 @@ fn walk_stmt(alloc: Global, search: &mut Search, items: &[Item], scope: &mut Sco
             walk_test(search, scope, test);
             walk_block(alloc, search, items, scope, body.as_slice())?;
             search.skip(1);
-            walk_tail(alloc, search, items, scope, tail)
+            walk_tail(alloc, search, items, scope, tail)?;
+            Ok(())
         }
         Stmt::While(test, body) => {
             walk_test(search, scope, test);
