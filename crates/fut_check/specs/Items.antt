@@ -64,16 +64,20 @@ body_faults globals s n b =
 abbrev pub is_bad_array : List Item → ℕ → Bool
 is_bad_array before m = nat_eq m 0 || nat_lt 65536 (cells before + m)
 
+-- the faults of a task's head: its name, parameters on `main`, its parameters and its result
+abbrev pub head_faults : List Item → List Item → ℕ → List ℕ → List Param → ℕ → List Fault
+head_faults globals before n w ps d =
+    (fault_if (declares before w) (n + 1) rule.DoubledName ++ fault_if (nat_eq (tasks before) 256) (n + 1) rule.ConstantLimit)
+        ++ fault_if (is_main w && has_params ps) (n + 3) rule.MainParameters
+        ++ params_faults globals [] (n + 3) ps
+        ++ depth_faults (n + 3 + params_width ps) d
+
 -- the faults of an item behind others
 abbrev pub item_faults : List Item → List Item → ℕ → Item → List Fault
 item_faults globals before n (CellsOf w m) =
     fault_if (declares before w) (n + 1) rule.DoubledName ++ fault_if (is_bad_array before m) (n + 3) rule.ConstantLimit
 item_faults globals before n (TaskOf w ps d b) =
-    fault_if (declares before w) (n + 1) rule.DoubledName ++ fault_if (nat_eq (tasks before) 256) (n + 1) rule.ConstantLimit
-        ++ fault_if (is_main w && has_params ps) (n + 3) rule.MainParameters
-        ++ params_faults globals [] (n + 3) ps
-        ++ depth_faults (n + 3 + params_width ps) d
-        ++ body_faults globals (opening_scope d ps) (n + 3 + params_width ps + d + 2) b
+    head_faults globals before n w ps d ++ body_faults globals (opening_scope d ps) (n + 3 + params_width ps + d + 2) b
 
 -- the faults of items behind others, and at the end token that no task is named `main`
 abbrev pub items_faults : List Item → List Item → ℕ → List Item → List Fault

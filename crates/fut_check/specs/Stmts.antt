@@ -141,8 +141,23 @@ abbrev mutual
   tail_faults globals s n NoElse = []
   tail_faults globals s n (ElseOf b) = block_faults globals s (n + 2) b
 
+-- a statement is `return`
+abbrev pub is_return : Stmt → Bool
+is_return (Declare w v) = false
+is_return (Define w v i) = false
+is_return (Assign w i) = false
+is_return (Store w e f) = false
+is_return (SpawnOf w es) = false
+is_return SyncAll = false
+is_return (If' e b o) = false
+is_return (While' e b) = false
+is_return (Return' e) = true
+
+-- the last statement of a block is `return`, or where it has none, what stands before it was
+abbrev pub ends_with : Bool → Block → Bool
+ends_with before Done = before
+ends_with before (Then x b) = ends_with (is_return x) b
+
 -- the last statement of a body is `return`
 abbrev pub ends_with_return : Block → Bool
-ends_with_return Done = false
-ends_with_return (Then (Return' e) Done) = true
-ends_with_return (Then x b) = ends_with_return b
+ends_with_return b = ends_with false b
