@@ -1,5 +1,6 @@
 pub mod Args
 pub mod Bodies
+pub mod Counts
 pub mod Drops
 pub mod Least
 pub mod Slots

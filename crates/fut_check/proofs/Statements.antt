@@ -1,6 +1,6 @@
 -- The faults of statements, by those of their parts.
 use Rattle.std.proofs.Common.{◌≡◌, ℕ, ◌+◌, List, ◌++◌, Option, Some, Bool, not, ◌&&◌, nat_lt, nat_eq, [], refl}
-use Rattle.fut_syntax.specs.Trees.{Expr, Init, Item, Param, Block, VarType, Declare, Define, Assign, Store}
+use Rattle.fut_syntax.specs.Trees.{Expr, Init, Item, TaskOf, Param, Block, VarType, Declare, Define, Assign, Store}
 use Rattle.fut_check.specs.declared.fault.Fault.{Fault}
 use Rattle.fut_check.specs.declared.fault.Rule.{Rule}
 use Rattle.fut_check.specs.declared.kind.Kind.{Kind}
@@ -8,7 +8,7 @@ use Rattle.fut_check.specs.declared.kind.Need.{Need}
 use Rattle.fut_check.specs.declared.names.Variable.{Variable}
 use Rattle.fut_check.specs.declared.fault.Rule.TheVariants as rule
 use Rattle.fut_check.specs.Faults.{broken, fault_if}
-use Rattle.fut_check.specs.Items.{is_over, param_faults, params_faults, head_faults, body_faults, has_params}
+use Rattle.fut_check.specs.Items.{is_over, param_faults, params_faults, head_faults, body_faults, item_faults, has_params, opening_scope}
 use Rattle.fut_check.specs.Kinds.{kind_of, init_need}
 use Rattle.fut_check.specs.Names.{Scope, tasks, declares, is_main, kind_named, element, element_rule, means_cells, declaration}
 use Rattle.fut_check.specs.Exprs.{needed_faults, for_int}
@@ -44,3 +44,7 @@ pub head_faults_are : (g before : List Item) (n : ℕ) (w : List ℕ) (ps : List
     → (fault_if (declares before w) m1 rule.DoubledName ++ fault_if (nat_eq count 256) m1 rule.ConstantLimit)
         ++ fault_if main m2 rule.MainParameters ++ params_faults g declared m3 ps ++ depth_faults m4 d ≡ head_faults g before n w ps d
 head_faults_are g before n w ps d count m1 m2 m3 m4 main declared t h v a b c e = rw (t, h, v, a, b, c, e) refl
+
+pub task_faults_are : (g before : List Item) (n : ℕ) (w : List ℕ) (ps : List Param) (d : ℕ) (b : Block) (m : ℕ) (s : Scope)
+    → m ≡ n + 3 + params_width ps + d + 2 → s ≡ opening_scope d ps → head_faults g before n w ps d ++ body_faults g s m b ≡ item_faults g before n (TaskOf w ps d b)
+task_faults_are g before n w ps d b m s a e = rw (a, e) refl

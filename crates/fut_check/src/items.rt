@@ -1,5 +1,5 @@
 //! Goes over items.
-ghost use Rattle.std.specs.Prelude.{◌≡◌, ◌+◌, ◌≤◌, ◌<◌, ◌++◌, ◌∷◌, [], IfOk, nat_lt, nat_eq, not, ◌&&◌, ◌||◌, ◌-◌, ◌^◌, min, ℕ};
+ghost use Rattle.std.specs.Prelude.{◌≡◌, ◌+◌, ◌≤◌, ◌<◌, ◌++◌, ◌∷◌, [], IfOk, nat_lt, nat_eq, not, ◌&&◌, ◌||◌, ◌-◌, ◌^◌, min, ℕ, List};
 ghost use Rattle.fut_syntax.specs.Trees as trees;
 ghost use Rattle.fut_syntax.specs.Views.{stmt_tree, type_tree, block_tree, params_tree, param_tree, item_tree, items_tree};
 ghost use Rattle.fut_check.specs.Faults.{Walked, fault_if, least};
@@ -7,6 +7,7 @@ ghost use Rattle.fut_check.specs.Passing.{Passed};
 ghost use Rattle.fut_check.specs.Names as names;
 ghost use Rattle.fut_check.specs.Widths.{type_width, param_width, each_param_width, params_width, block_width, item_width, items_width};
 ghost use Rattle.fut_check.specs.Items as spec;
+ghost use Rattle.fut_check.specs.Counts.{AreCounts};
 ghost use Rattle.fut_check.specs.declared.names.Variable.{Variable};
 ghost use Rattle.fut_check.specs.declared.fault.Rule.TheVariants.{ConstantLimit, DoubledName};
 ghost use Rattle.fut_check.specs.Stmts.{ends_with_return, is_return, depth_faults, declared_faults};
@@ -258,25 +259,66 @@ fn is_bad_array(cells: u64, length: u64) -> bool
     length == 0 || cells.saturating_add(length) > CELLS
 }
 
+/// What is known of the items so far: how many tasks they have, and how many cells, or the greatest number where they have more.
+#[derive(Clone, Copy)]
+struct Counts {
+    tasks: usize,
+    cells: u64,
+}
+
+/// The counts with one more item.
+#[tactic(auto, using(crate::proofs::Counts::tasks_more, crate::proofs::Counts::cells_more))]
+fn count(counts: Counts, item: &Item) -> Counts
+    requires { counts.tasks < 2 ^ 62 }
+    ensures { (before : List trees.Item) → AreCounts before counts → AreCounts (before ++ item_tree item.now ∷ []) result }
+{
+    match item {
+        Item::Cells(_, length) => Counts {
+            tasks: counts.tasks,
+            cells: counts.cells.saturating_add(*length),
+        },
+        Item::Task(_, _, _, _) => Counts {
+            tasks: counts.tasks + 1,
+            cells: counts.cells,
+        },
+    }
+}
+
+/// Goes over an item behind others.
+fn walk_item(alloc: Global, search: &mut Search, items: &[Item], before: &[Item], counts: Counts, item: &Item) -> Result<(), NoMemory>
+    requires room { search.old.at + item_width (item_tree item.now) ≤ search.old.end }
+    requires counts { AreCounts (items_tree before.now) counts }
+    ensures { IfOk result (λ _. Walked search.old search.new (item_width (item_tree item.now)) (spec.item_faults (items_tree items.now) (items_tree before.now) search.old.at (item_tree item.now))) }
+{
+    match item {
+        Item::Cells(word, length) => {
+            walk_cells(search, items, before, counts.cells, word.as_slice(), *length);
+            Ok(())
+        }
+        Item::Task(word, params, depth, body) => walk_task(
+            alloc,
+            search,
+            items,
+            before,
+            counts.tasks,
+            word.as_slice(),
+            params.as_slice(),
+            *depth,
+            body.as_slice(),
+        ),
+    }
+}
+
 /// Goes over all items and the end token.
-fn walk_items(alloc: Global, search: &mut Search, items: &[Item]) -> Result<(), NoMemory>
+pub fn walk_items(alloc: Global, search: &mut Search, items: &[Item]) -> Result<(), NoMemory>
     requires { search.old.at + items_width (items_tree items.now) < search.old.end }
     ensures { IfOk result (λ _. search.new.found ≡ least search.old.found (spec.items_faults (items_tree items.now) [] search.old.at (items_tree items.now))) }
 {
-    let mut tasks: usize = 0;
-    let mut cells: u64 = 0;
+    let mut counts = Counts { tasks: 0, cells: 0 };
+    let _start = search.at();
     for (place, item) in items.iter().enumerate() {
-        let before = &items[..place];
-        match item {
-            Item::Cells(word, length) => {
-                walk_cells(search, items, before, cells, word.as_slice(), *length);
-                cells = cells.saturating_add(*length);
-            }
-            Item::Task(word, params, depth, body) => {
-                walk_task(alloc, search, items, before, tasks, word.as_slice(), params.as_slice(), *depth, body.as_slice())?;
-                tasks += 1;
-            }
-        }
+        walk_item(alloc, search, items, &items[..place], counts, item)?;
+        counts = count(counts, item);
     }
     let end = search.at();
     search.note_if(!has_main(items), end, Rule::NoMain);
