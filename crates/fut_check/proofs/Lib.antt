@@ -6,3 +6,5 @@ pub mod Least
 pub mod Slots
 pub mod Some
 pub mod Statements
+pub mod Tokens
+pub mod Walks
