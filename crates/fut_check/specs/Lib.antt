@@ -1,3 +1,5 @@
+pub mod Answers
+pub mod Checks
 pub mod Counts
 pub mod Exprs
 pub mod Faults

@@ -2,7 +2,7 @@
 ghost use Rattle.std.specs.Prelude.{◌≡◌, ◌+◌, ◌≤◌, ◌<◌, ◌++◌, ◌∷◌, [], IfOk, nat_lt, nat_eq, not, ◌&&◌, ◌||◌, ◌-◌, ◌^◌, min, ℕ, List};
 ghost use Rattle.fut_syntax.specs.Trees as trees;
 ghost use Rattle.fut_syntax.specs.Views.{stmt_tree, type_tree, block_tree, params_tree, param_tree, item_tree, items_tree};
-ghost use Rattle.fut_check.specs.Faults.{Walked, fault_if, least};
+ghost use Rattle.fut_check.specs.Faults.{Walked, fault_if};
 ghost use Rattle.fut_check.specs.Passing.{Passed};
 ghost use Rattle.fut_check.specs.Names as names;
 ghost use Rattle.fut_check.specs.Widths.{type_width, param_width, each_param_width, params_width, block_width, item_width, items_width};
@@ -312,7 +312,7 @@ fn walk_item(alloc: Global, search: &mut Search, items: &[Item], before: &[Item]
 /// Goes over all items and the end token.
 pub fn walk_items(alloc: Global, search: &mut Search, items: &[Item]) -> Result<(), NoMemory>
     requires { search.old.at + items_width (items_tree items.now) < search.old.end }
-    ensures { IfOk result (λ _. search.new.found ≡ least search.old.found (spec.items_faults (items_tree items.now) [] search.old.at (items_tree items.now))) }
+    ensures { IfOk result (λ _. Walked search.old search.new (items_width (items_tree items.now)) (spec.items_faults (items_tree items.now) [] search.old.at (items_tree items.now))) }
 {
     let mut counts = Counts { tasks: 0, cells: 0 };
     let _start = search.at();

@@ -4,6 +4,7 @@
 //! above use `Checked`, which is well-typed by its type, and the definitions `IsWellTyped` and `IsFirstFault` of `specs/`.
 #![tactic(auto)]
 
+mod checked;
 mod declarations;
 mod exprs;
 pub mod fault;
@@ -11,6 +12,10 @@ mod inits;
 mod items;
 mod kind;
 mod names;
+mod program;
 mod scope;
 mod search;
 mod stmts;
+
+pub use checked::Checked;
+pub use program::{CheckFault, check};
