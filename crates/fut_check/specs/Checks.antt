@@ -1,0 +1,35 @@
+-- What the check of a program answers.
+use Rattle.std.specs.Prelude.{◌≡◌, ℕ, ◌<◌, ◌^◌, length, slice_get, Option, Some, None, IsSomeAnd}
+use Rattle.fut_syntax.specs.declared.token.Place.{Place}
+use Rattle.fut_syntax.specs.declared.tree.Program as declared
+use Rattle.fut_syntax.specs.Trees as trees
+use Rattle.fut_syntax.specs.Tokens.{program_tokens}
+use Rattle.fut_syntax.specs.Views.{program_tree}
+use Rattle.fut_check.specs.declared.fault.Fault.{Fault}
+use Rattle.fut_check.specs.Faults.{rule_number}
+use Rattle.fut_check.specs.Items.{faults_of, IsWellTyped, IsFirstFault}
+
+-- the tree has a place for each of its tokens
+pub record HasPlaces (p : declared.Program) : Type 0 where
+  pub tree : trees.Program
+  pub is : program_tree p.items ≡ Some tree
+  pub places : length p.places ≡ length (program_tokens tree)
+  pub few : length p.places < 2 ^ 32
+
+-- how many faults a tree has; where there is no tree, that is one
+abbrev pub fault_count : Option trees.Program → ℕ
+fault_count None = 1
+fault_count (Some P) = length (faults_of P)
+
+-- the tree breaks no rule
+abbrev pub IsChecked : declared.Program → Type 0
+IsChecked p = IsSomeAnd (program_tree p.items) IsWellTyped
+
+-- the first fault of the tree breaks the rule of this number, and its token stands here
+pub record IsFaultOf (p : declared.Program) (number : ℕ) (place : Place) : Type 0 where
+  pub tree : trees.Program
+  pub is : program_tree p.items ≡ Some tree
+  pub fault : Fault
+  pub first : IsFirstFault tree fault
+  pub rule : number ≡ rule_number fault.rule
+  pub stands : slice_get p.places fault.token ≡ Some place

@@ -1,0 +1,33 @@
+//! Programs that are well-typed.
+ghost use Rattle.std.specs.Prelude.{◌≡◌};
+ghost use Rattle.fut_syntax.specs.Views.{program_tree};
+ghost use Rattle.fut_check.specs.Checks.{IsChecked, fault_count};
+
+use fut_syntax::tree::Program;
+
+/// A program that breaks no type rule.
+#[derive(Clone, Copy)]
+pub struct Checked<'a> {
+    program: &'a Program,
+    ghost well_typed: { fault_count (program_tree program.now.items) ≡ 0 },
+}
+
+impl<'a> Checked<'a> {
+    #[tactic(auto, using(crate::proofs::Clean::no_count))]
+    /// Of a program that breaks no rule.
+    pub(crate) fn new(program: &'a Program) -> Checked<'a>
+        requires { IsChecked program.now }
+        ensures { result.program.now ≡ program.now }
+    {
+        Checked { program }
+    }
+
+    #[tactic(auto, using(crate::proofs::Clean::no_faults))]
+    /// The program.
+    pub fn program(&self) -> &'a Program
+        ensures is { result.now ≡ self.now.program.now }
+        ensures well_typed { IsChecked result.now }
+    {
+        self.program
+    }
+}

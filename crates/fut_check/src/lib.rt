@@ -1,0 +1,21 @@
+//! The twelve type rules of programs.
+//!
+//! `check` says that a program is well-typed, or where its first fault stands and which rule it breaks there. The layers
+//! above use `Checked`, which is well-typed by its type, and the definitions `IsWellTyped` and `IsFirstFault` of `specs/`.
+#![tactic(auto)]
+
+mod checked;
+mod declarations;
+mod exprs;
+pub mod fault;
+mod inits;
+mod items;
+mod kind;
+mod names;
+mod program;
+mod scope;
+mod search;
+mod stmts;
+
+pub use checked::Checked;
+pub use program::{CheckFault, check};
