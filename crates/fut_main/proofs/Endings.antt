@@ -1,7 +1,6 @@
--- From how a run ended to the verdict on its text.
-use Rattle.std.proofs.Common.{◌≡◌, ℕ, ◌≤◌, true, false, List, [], ◌∷◌, length, ◌⊎◌, inl, inr, refl, sym, ap, ◌∙◌, subst, arith}
+-- From what came of a program to the verdict on its text.
+use Rattle.std.proofs.Common.{◌≡◌, ℕ, ◌≤◌, List, [], ◌∷◌, length, refl, sym, ap, ◌∙◌, subst, arith}
 use Rattle.std.specs.Prelude.{Option, Some, None, IfSome, IsSomeAnd, Ok}
-use Rattle.std.proofs.lemmas.Bool.{false≢true}
 use Rattle.fut_base.specs.declared.event.Event.{Event}
 use Rattle.fut_base.specs.declared.record.Race.{Race}
 use Rattle.fut_base.specs.declared.record.Finish.{Finish}
@@ -11,18 +10,22 @@ use Rattle.fut_syntax.specs.Trees as tree
 use Rattle.fut_syntax.specs.declared.tree.Program as declared
 use Rattle.fut_syntax.specs.declared.token.Place.{Place}
 use Rattle.fut_syntax.specs.Views.{program_tree}
-use Rattle.fut_syntax.specs.Lexed.{has_comment, HasComments}
-use Rattle.fut_syntax.specs.Texts.{Parses, IsProgram, IsFaultPlace}
-use Rattle.fut_syntax.specs.Small.{IsSmall, IsSmallText}
-use Rattle.fut_syntax.proofs.Programs.{one_program, no_faulty_program}
+use Rattle.fut_syntax.specs.Texts.{Parses, IsProgram}
+use Rattle.fut_syntax.specs.Small.{IsSmall}
+use Rattle.fut_check.specs.Checks.{IsChecked, IsFaultOf}
+use Rattle.fut_check.specs.Items.{IsWellTyped}
 use Rattle.task_machine.specs.Machine.{Machine, opening, Leads, IsLegal, IsWhole}
 use Rattle.task_machine.specs.Flat.{Compiled, IsCodeOf}
 use Rattle.fut_main.specs.declared.status.Status.{Status}
 use Rattle.fut_main.specs.declared.status.Status.TheVariants as status
+use Rattle.fut_main.specs.declared.words.Command.{Command}
+use Rattle.fut_main.specs.declared.words.Command.TheVariants as command
+use Rattle.fut_main.specs.RunText.{run_text}
 use Rattle.fut_main.specs.Serial.{EndsSo}
-use Rattle.fut_main.specs.Outcomes.{ending_of, OutcomeOf}
+use Rattle.fut_main.specs.Asking.{Asked, Asks}
+use Rattle.fut_main.specs.Outcomes.{ending_of, WasRun, OutcomeOf, TextWasRun, IsOutcome}
 use Rattle.fut_main.specs.Due.{verdict_text}
-use Rattle.fut_main.specs.Verdict.{Asked, IsRun, IsRead, IsRunOf, IsSpent, EndsIn, IsOutcome, IsVerdict}
+use Rattle.fut_main.specs.Verdict.{IsRead, IsWellTypedText, IsIllTypedText, IsRunOf, IsSpent, EndsIn, IsOfRun, IsOfText, IsVerdict}
 
 -- ---- a program
 
@@ -44,54 +47,70 @@ run_ends (Some P) code h races end s of ends report is = subst (λ x. EndsIn P x
 
 -- ---- a text
 
--- a text has a comment or has none
-not_both : (text : List ℕ) (P : tree.Program) → IsProgram text P → HasComments text true → HasComments text false → ⊥
-not_both text P p some none = false≢true (sym (none p.cut.pieces p.cut.cut) ∙ some p.cut.pieces p.cut.cut)
+-- the text of a program that breaks no rule
+typed : (text : List ℕ) (p : declared.Program) (parsed : Parses text (Ok p)) → IsChecked p → IsWellTypedText text parsed.0.0
+typed text p parsed checked = record { program = parsed.0.2; well_typed = subst (λ o. IsSomeAnd o IsWellTyped) parsed.0.1 checked }
 
--- a program that is small is the small one of its text
-other_small : (text : List ℕ) (p : declared.Program) (Q : tree.Program) → Parses text (Ok p) → (IsSomeAnd (program_tree p.items) IsSmall → ⊥) → IsSmallText text Q → ⊥
-other_small text p Q parsed other small =
-    let P = parsed.0.0 in
-    let same : P ≡ Q = one_program text P Q parsed.0.2 small.program in
-    other (subst (λ o. IsSomeAnd o IsSmall) (sym parsed.0.1) (subst IsSmall (sym same) small.small))
+-- the tree of a program is that of its text
+tree_is : (text : List ℕ) (p : declared.Program) (P : tree.Program) (parsed : Parses text (Ok p)) → program_tree p.items ≡ Some P → P ≡ parsed.0.0
+tree_is text p P parsed is = let both : Some P ≡ Some parsed.0.0 = sym is ∙ parsed.0.1 in cc
 
-unbuilt : (text : List ℕ) (p : declared.Program) → Parses text (Ok p) → ((p.comments ≡ true) ⊎ (IsSomeAnd (program_tree p.items) IsSmall → ⊥)) → (Q : tree.Program) → IsSmallText text Q → ⊥
-unbuilt text p parsed (inl comments) Q small = not_both text Q small.program (subst (HasComments text) comments parsed.2) small.plain
-unbuilt text p parsed (inr other) Q small = other_small text p Q parsed other small
-
--- a small program that was run
-was_run : (text : List ℕ) (p : declared.Program) (s : Status) (h : List Event) (races : List Race) → length text ≤ 4096 → Parses text (Ok p) → (p.comments ≡ false) × IsSomeAnd (program_tree p.items) IsSmall × IfSome (program_tree p.items) (λ P. EndsIn P s h races)
-    → (P : tree.Program) × IsSmallText text P × EndsIn P s h races
-was_run text p s h races short parsed run =
-    let P = parsed.0.0 in
-    let tree_is = parsed.0.1 in (
-      P,
-      record { short = short; program = parsed.0.2; plain = subst (HasComments text) run.0 parsed.2; small = subst (λ o. IsSomeAnd o IsSmall) tree_is run.1 },
-      subst (λ o. IfSome o (λ Q. EndsIn Q s h races)) tree_is run.2,
+was_run : (c : Command) (text : List ℕ) (p : declared.Program) (s : Status) (h : List Event) (races : List Race) → Parses text (Ok p) → WasRun c p s h races → TextWasRun c text s h races
+was_run c text p s h races parsed run = (
+      run.0,
+      (parsed.0.0, typed text p parsed run.1, subst (λ o. IsSomeAnd o IsSmall) parsed.0.1 run.2, subst (λ o. IfSome o (λ Q. EndsIn Q s h races)) parsed.0.1 run.3),
     )
 
-pub outcome : (text : List ℕ) (p : declared.Program) (s : Status) (h : List Event) (races : List Race) → length text ≤ 4096 → Parses text (Ok p) → OutcomeOf p s h races → IsOutcome text s h races
-outcome text p status.Unbuilt h races short parsed o = (o.0, unbuilt text p parsed o.1)
-outcome text p status.NoMemory h races short parsed o = o
-outcome text p status.Clean h races short parsed o = was_run text p status.Clean h races short parsed o
-outcome text p status.Raced h races short parsed o = was_run text p status.Raced h races short parsed o
-outcome text p (status.Spent end) h races short parsed o = was_run text p (status.Spent end) h races short parsed o
-outcome text p status.ReadFault h races short parsed o = was_run text p status.ReadFault h races short parsed o
-outcome text p status.WriteFault h races short parsed o = was_run text p status.WriteFault h races short parsed o
-outcome text p status.Usage h races short parsed o = was_run text p status.Usage h races short parsed o
+faulty : (text : List ℕ) (p : declared.Program) (number : ℕ) (place : Place) → Parses text (Ok p) → IsFaultOf p number place → IsIllTypedText text number place
+faulty text p number place parsed f = record {
+      tree = f.tree;
+      program = subst (λ P. IsProgram text P) (sym (tree_is text p f.tree parsed f.is)) parsed.0.2;
+      fault = f.fault;
+      first = f.first;
+      rule = f.rule;
+      tokens = parsed.1.0;
+      places = p.places;
+      cut = parsed.1.1;
+      stands = f.stands;
+    }
 
-pub faulty : (text : List ℕ) (place : Place) (s : Status) (h : List Event) (races : List Race) → s ≡ status.Unbuilt → h ≡ [] → IsFaultPlace text place → IsOutcome text s h races
-faulty text place s h races is none fault =
-    subst (λ x. IsOutcome text x h races) (sym is) (none, λ P small. no_faulty_program text place P fault small.program)
+pub outcome : (c : Command) (text : List ℕ) (p : declared.Program) (s : Status) (h : List Event) (races : List Race) (printed : List ℕ) → Parses text (Ok p) → OutcomeOf c p s h races printed → IsOutcome c text s h races printed
+outcome c text p status.Accepted h races printed parsed o = (o.0, o.1, (parsed.0.0, typed text p parsed o.2, o.3 parsed.0.0 parsed.0.1))
+outcome c text p (status.IllTyped rule line column) h races printed parsed o = (o.0, faulty text p rule (record { line = line; column = column }) parsed o.1)
+outcome c text p status.Unbuilt h races printed parsed o = (o.0, o.1, (parsed.0.0, typed text p parsed o.2, λ small. o.3 (subst (λ x. IsSomeAnd x IsSmall) (sym parsed.0.1) small)))
+outcome c text p status.NoMemory h races printed parsed o = o
+outcome c text p status.Clean h races printed parsed o = was_run c text p status.Clean h races parsed o
+outcome c text p status.Raced h races printed parsed o = was_run c text p status.Raced h races parsed o
+outcome c text p (status.Spent end) h races printed parsed o = was_run c text p (status.Spent end) h races parsed o
+outcome c text p (status.Syntax line column) h races printed parsed o = absurd o
+outcome c text p status.ReadFault h races printed parsed o = absurd o
+outcome c text p status.WriteFault h races printed parsed o = absurd o
+outcome c text p status.Usage h races printed parsed o = absurd o
+outcome c text p status.TooLong h races printed parsed o = absurd o
 
 -- ---- the verdict
 
-pub judged : (a : Asked) (program : List ℕ) (s : Status) (h : List Event) (races : List Race) → IsRun a.words → IsRead a program → IsOutcome program s h races → IsVerdict a s h (verdict_text s program h races)
-judged a program status.Clean h races words read o = record { words = words; program = program; read = read; races = races; outcome = o; record_due = refl }
-judged a program status.Raced h races words read o = record { words = words; program = program; read = read; races = races; outcome = o; record_due = refl }
-judged a program (status.Spent end) h races words read o = record { words = words; program = program; read = read; races = races; outcome = o; record_due = refl }
-judged a program status.Unbuilt h races words read o = (words, o.0, refl, inr (record { bytes = program; read = read; other = o.1 }))
-judged a program status.NoMemory h races words read o = (o, refl, read.quiet)
-judged a program status.ReadFault h races words read o = absurd o.2
-judged a program status.WriteFault h races words read o = absurd o.2
-judged a program status.Usage h races words read o = absurd o.2
+of_run : (a : Asked) (c : Command) (text : List ℕ) (s : Status) (end : Finish) (h : List Event) (races : List Race) (due : List ℕ) → Asks a c → IsRead a text → TextWasRun c text s h races → due ≡ run_text text h races end → IsOfRun a s end h due
+of_run a c text s end h races due words read o is = record { words = subst (Asks a) o.0 words; bytes = text; read = read; tree = o.1.0; program = o.1.1; small = o.1.2; races = races; ends = o.1.3; record_due = is }
+
+pub judged : (a : Asked) (c : Command) (text : List ℕ) (s : Status) (h : List Event) (races : List Race) (printed : List ℕ) → Asks a c → IsRead a text → IsOutcome c text s h races printed → IsVerdict a s h (verdict_text s text h races printed)
+judged a c text status.Clean h races printed words read o = of_run a c text status.Clean finish.Whole h races _ words read o refl
+judged a c text status.Raced h races printed words read o = of_run a c text status.Raced finish.Whole h races _ words read o refl
+judged a c text (status.Spent end) h races printed words read o = of_run a c text (status.Spent end) end h races _ words read o refl
+judged a c text status.Accepted h races printed words read o = (
+      subst (Asks a) o.0 words,
+      record { command = c; words = words; no_run = o.1; is_due = refl; bytes = text; read = read; holds = o.2 },
+    )
+judged a c text (status.Syntax line column) h races printed words read o =
+    record { command = c; words = words; no_run = o.0; is_due = refl; bytes = text; read = read; holds = o.1 }
+judged a c text (status.IllTyped rule line column) h races printed words read o =
+    record { command = c; words = words; no_run = o.0; is_due = refl; bytes = text; read = read; holds = o.1 }
+judged a c text status.Unbuilt h races printed words read o = (
+      subst (Asks a) o.0 words,
+      record { command = c; words = words; no_run = o.1; is_due = refl; bytes = text; read = read; holds = o.2 },
+    )
+judged a c text status.NoMemory h races printed words read o = (o, refl, read.quiet)
+judged a c text status.ReadFault h races printed words read o = absurd o
+judged a c text status.WriteFault h races printed words read o = absurd o
+judged a c text status.Usage h races printed words read o = absurd o
+judged a c text status.TooLong h races printed words read o = absurd o

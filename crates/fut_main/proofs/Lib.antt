@@ -1,7 +1,9 @@
+pub mod Completing
 pub mod Consuming
 pub mod Endings
 pub mod Feeding
 pub mod Lines
 pub mod PieceLemmas
+pub mod Placed
 pub mod Serially
 pub mod Steps

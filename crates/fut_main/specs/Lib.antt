@@ -1,3 +1,4 @@
+pub mod Asking
 pub mod Due
 pub mod Numbers
 pub mod Outcomes

@@ -1,5 +1,5 @@
--- What `forder` answers, and why.
-use Rattle.std.specs.Prelude.{◌≡◌, ◌≢◌, ℕ, ◌+◌, ◌≤◌, Bool, true, List, [], ◌∷◌, ◌++◌, length, codes, Option, Some, ◌⊎◌}
+-- What `forder` and `plain` answer, and why.
+use Rattle.std.specs.Prelude.{◌≡◌, ◌≢◌, ℕ, ◌+◌, ◌≤◌, true, List, [], ◌∷◌, ◌++◌, length, codes, slice_get, Option, Some, ◌⊎◌}
 use Rattle.std.specs.Io.KnownBytes.{Appends, Consumes, IsAtEnd}
 use Rattle.fut_base.specs.declared.event.Event.{Event}
 use Rattle.fut_base.specs.declared.record.Race.{Race}
@@ -7,26 +7,26 @@ use Rattle.fut_base.specs.declared.record.Finish.{Finish}
 use Rattle.fut_base.specs.declared.record.Finish.TheVariants as finish
 use Rattle.fut_base.specs.Ports.{Rose, AppendsPart}
 use Rattle.fut_base.specs.Racing.{IsReport}
+use Rattle.fut_syntax.specs.declared.token.Place.{Place}
+use Rattle.fut_syntax.specs.declared.token.Token.{Token}
 use Rattle.fut_syntax.specs.Trees as tree
-use Rattle.fut_syntax.specs.Small.{IsSmallText}
+use Rattle.fut_syntax.specs.Lexed.{IsTokensOf}
+use Rattle.fut_syntax.specs.Lines.{canonical_text}
+use Rattle.fut_syntax.specs.Small.{IsSmall}
+use Rattle.fut_syntax.specs.Texts.{IsProgram, IsFaultPlace}
+use Rattle.fut_check.specs.declared.fault.Fault.{Fault}
+use Rattle.fut_check.specs.Faults.{rule_number}
+use Rattle.fut_check.specs.Items.{IsWellTyped, IsFirstFault}
 use Rattle.task_machine.specs.Machine.{Machine, opening, Leads, IsLegal, IsWhole, IsAllowed, FinishHolds}
+use Rattle.fut_main.specs.Asking.{Asked, Asks}
+use Rattle.fut_main.specs.Due.{syntax_text, type_text}
 use Rattle.fut_main.specs.RunText.{run_text}
 use Rattle.fut_main.specs.declared.status.Status.{Status}
 use Rattle.fut_main.specs.declared.status.Status.TheVariants as status
+use Rattle.fut_main.specs.declared.words.Command.{Command}
+use Rattle.fut_main.specs.declared.words.Command.TheVariants as command
 
--- what a call was given: the words, what the source had left before and after it, whether the last take answered the
--- end, and the source's count of faults before and after it
-pub record Asked : Type 0 where
-  pub words : List (List ℕ)
-  pub left_before : Option (List ℕ)
-  pub left_after : Option (List ℕ)
-  pub ended : Bool
-  pub faults_before : ℕ
-  pub faults_after : ℕ
-
--- the words are `run --workers 1`
-abbrev pub IsRun : List (List ℕ) → Type 0
-IsRun words = words ≡ codes "run" ∷ codes "--workers" ∷ codes "1" ∷ []
+-- ---- what was read
 
 -- these are all bytes that the source had; a take answered its end, and none failed
 pub record IsRead (a : Asked) (bytes : List ℕ) : Type 0 where
@@ -35,18 +35,37 @@ pub record IsRead (a : Asked) (bytes : List ℕ) : Type 0 where
   pub ended : a.ended ≡ true
   pub quiet : a.faults_after ≡ a.faults_before
 
--- the source gave 4,097 bytes, and no take failed
+-- the source gave 1,048,577 bytes, and no take failed
 pub record GaveTooMuch (a : Asked) : Type 0 where
   pub bytes : List ℕ
-  pub long : length bytes ≡ 4097
+  pub long : length bytes ≡ 1048577
   pub taken : Consumes a.left_before a.left_after bytes
   pub quiet : a.faults_after ≡ a.faults_before
 
--- the source gave its end, and its bytes are no small text
-pub record GaveNoSmallText (a : Asked) : Type 0 where
-  pub bytes : List ℕ
-  pub read : IsRead a bytes
-  pub other : (P : tree.Program) → IsSmallText bytes P → ⊥
+-- ---- texts
+
+-- the text is a program that breaks no type rule
+pub record IsWellTypedText (bytes : List ℕ) (P : tree.Program) : Type 0 where
+  pub program : IsProgram bytes P
+  pub well_typed : IsWellTyped P
+
+-- the text is a program whose first fault breaks the rule of this number, and its token stands here
+pub record IsIllTypedText (bytes : List ℕ) (number : ℕ) (place : Place) : Type 0 where
+  pub tree : tree.Program
+  pub program : IsProgram bytes tree
+  pub fault : Fault
+  pub first : IsFirstFault tree fault
+  pub rule : number ≡ rule_number fault.rule
+  pub tokens : List Token
+  pub places : List Place
+  pub cut : IsTokensOf bytes tokens places
+  pub stands : slice_get places fault.token ≡ Some place
+
+-- the text is a program that breaks no type rule, and this is its canonical text
+abbrev pub IsPrinted : List ℕ → List ℕ → Type 0
+IsPrinted bytes printed = (P : tree.Program) × IsWellTypedText bytes P × (printed ≡ canonical_text P)
+
+-- ---- runs
 
 -- a history is a legal execution of a program, of at most 1,000 entries, and these are its races
 pub record IsRunOf (P : tree.Program) (h : List Event) (races : List Race) : Type 0 where
@@ -72,36 +91,58 @@ EndsIn P status.Raced h races = IsRunOf P h races × IsWhole P h × (races ≢ [
 EndsIn P (status.Spent end) h races = IsRunOf P h races × IsSpent P h end
 EndsIn P _ h races = ⊥
 
--- what came of a text: it is small and was run, or it is none that is run, or there was no memory
-abbrev pub IsOutcome : List ℕ → Status → List Event → List Race → Type 0
-IsOutcome text status.Unbuilt h races = (h ≡ []) × ((P : tree.Program) → IsSmallText text P → ⊥)
-IsOutcome text status.NoMemory h races = h ≡ []
-IsOutcome text s h races = (P : tree.Program) × IsSmallText text P × EndsIn P s h races
+-- ---- verdicts
 
--- the words ask for a run, all the source's bytes were read, this is the outcome, and its record is due
+-- the words ask for a run, all the source's bytes were read, they are a small program that breaks no type rule, its run
+-- ended so, and the record of that run is due
 pub record IsOfRun (a : Asked) (s : Status) (end : Finish) (h : List Event) (text : List ℕ) : Type 0 where
-  pub words : IsRun a.words
-  pub program : List ℕ
-  pub read : IsRead a program
+  pub words : Asks a command.Run
+  pub bytes : List ℕ
+  pub read : IsRead a bytes
+  pub tree : tree.Program
+  pub program : IsWellTypedText bytes tree
+  pub small : IsSmall tree
   pub races : List Race
-  pub outcome : IsOutcome program s h races
-  pub record_due : text ≡ run_text program h races end
+  pub ends : EndsIn tree s h races
+  pub record_due : text ≡ run_text bytes h races end
+
+-- the words ask for one of the commands, no run was made, and this is due; all the source's bytes were read, and this
+-- holds of them
+pub record IsOfText (a : Asked) (h : List Event) (text due : List ℕ) (Holds : List ℕ → Type 0) : Type 0 where
+  pub command : Command
+  pub words : Asks a command
+  pub no_run : h ≡ []
+  pub is_due : text ≡ due
+  pub bytes : List ℕ
+  pub read : IsRead a bytes
+  pub holds : Holds bytes
 
 -- a status with the history that is answered and the text that is due, and what must have come about for it
 abbrev pub IsVerdict : Asked → Status → List Event → List ℕ → Type 0
 IsVerdict a status.Clean h text = IsOfRun a status.Clean finish.Whole h text
 IsVerdict a status.Raced h text = IsOfRun a status.Raced finish.Whole h text
 IsVerdict a (status.Spent end) h text = IsOfRun a (status.Spent end) end h text
--- the source gave 4,097 bytes, or its end, and what it gave is no small text
+-- the text is a program that breaks no type rule, and its canonical text is due
+IsVerdict a status.Accepted h text = Asks a command.Check × IsOfText a h text text (λ bytes. IsPrinted bytes text)
+-- the text is no program
+IsVerdict a (status.Syntax line column) h text =
+    IsOfText a h text (syntax_text line column) (λ bytes. IsFaultPlace bytes (record { line = line; column = column }))
+-- the text is a program, and breaks a type rule
+IsVerdict a (status.IllTyped rule line column) h text =
+    IsOfText a h text (type_text rule line column) (λ bytes. IsIllTypedText bytes rule (record { line = line; column = column }))
+-- the text is a program that breaks no type rule and is not small
 IsVerdict a status.Unbuilt h text =
-    IsRun a.words × (h ≡ []) × (text ≡ codes "not built\n") × (GaveTooMuch a ⊎ GaveNoSmallText a)
+    Asks a command.Run × IsOfText a h text (codes "not built\n") (λ bytes. (P : tree.Program) × IsWellTypedText bytes P × (IsSmall P → ⊥))
+-- the source gave 1,048,577 bytes
+IsVerdict a status.TooLong h text = ((c : Command) × Asks a c) × (h ≡ []) × (text ≡ codes "too long\n") × GaveTooMuch a
 -- a take failed
-IsVerdict a status.ReadFault h text = IsRun a.words × (h ≡ []) × (text ≡ codes "read fault\n") × (a.faults_before ≤ a.faults_after) × Rose a.faults_before a.faults_after
+IsVerdict a status.ReadFault h text =
+    ((c : Command) × Asks a c) × (h ≡ []) × (text ≡ codes "read fault\n") × (a.faults_before ≤ a.faults_after) × Rose a.faults_before a.faults_after
 -- no reason is due for want of memory
 IsVerdict a status.NoMemory h text = (h ≡ []) × (text ≡ codes "no memory\n") × (a.faults_after ≡ a.faults_before)
 -- the words have another form; nothing is read
 IsVerdict a status.Usage h text =
-    (IsRun a.words → ⊥) × (h ≡ []) × (text ≡ codes "usage: forder run, serial, replay, check or load\n") × (a.left_after ≡ a.left_before) × (a.faults_after ≡ a.faults_before)
+    ((c : Command) → Asks a c → ⊥) × (h ≡ []) × (text ≡ codes "usage: forder run, serial, replay, check or load\n") × (a.left_after ≡ a.left_before) × (a.faults_after ≡ a.faults_before)
 -- that a put failed is no verdict of its own
 IsVerdict a status.WriteFault h text = ⊥
 
@@ -133,20 +174,25 @@ abbrev pub IsAnswer : Asked → Told → Status → List Event → Type 0
 IsAnswer a t status.WriteFault h = IsCutOff a t h
 IsAnswer a t s h = IsAnswered a t s h
 
--- the answer to a run that nothing hinders
-abbrev pub EndsRun : Status → Type 0
-EndsRun status.Clean = Unit {0}
-EndsRun status.Raced = Unit {0}
-EndsRun (status.Spent _) = Unit {0}
-EndsRun status.NoMemory = Unit {0}
-EndsRun _ = ⊥
+-- the answers to a well-typed program that nothing hinders
+abbrev pub IsFree : Asked → Status → Type 0
+IsFree a status.Accepted = Asks a command.Check
+IsFree a status.Clean = Asks a command.Run
+IsFree a status.Raced = Asks a command.Run
+IsFree a (status.Spent _) = Asks a command.Run
+IsFree a status.Unbuilt = Asks a command.Run
+IsFree a status.NoMemory = Unit {0}
+IsFree a _ = ⊥
 
--- the words are those of a run, the source tells that it has a small text left, and no count of faults rose
+-- the words ask for a command, the source tells that it has a well-typed program of at most 1,048,576 bytes left, and no
+-- count of faults rose
 pub record IsUnhindered (a : Asked) (t : Told) : Type 0 where
-  pub words : IsRun a.words
-  pub program : List ℕ
+  pub command : Command
+  pub words : Asks a command
+  pub bytes : List ℕ
   pub tree : tree.Program
-  pub left : a.left_before ≡ Some program
-  pub text : IsSmallText program tree
+  pub left : a.left_before ≡ Some bytes
+  pub short : length bytes ≤ 1048576
+  pub program : IsWellTypedText bytes tree
   pub source_quiet : Rose a.faults_before a.faults_after → ⊥
   pub sink_quiet : Rose t.faults_before t.faults_after → ⊥

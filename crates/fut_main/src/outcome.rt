@@ -1,17 +1,21 @@
-//! From the bytes of a text to the outcome of its run.
+//! From the bytes of a text to what came of it.
 ghost use Rattle.std.specs.Prelude.{◌≡◌, ◌≤◌, [], length, IfOk, IfSome, IsSomeAnd};
 ghost use Rattle.fut_base.specs.Events.{events_of};
 ghost use Rattle.fut_syntax.specs.Small.{IsSmall};
 ghost use Rattle.fut_syntax.specs.Views.{program_tree};
-ghost use Rattle.fut_main.specs.Verdict.{EndsIn, IsOutcome};
-ghost use Rattle.fut_main.specs.Outcomes.{OutcomeOf, ending_of};
+ghost use Rattle.fut_check.specs.Checks.{HasPlaces, IsChecked};
+ghost use Rattle.fut_main.specs.Verdict.{EndsIn};
+ghost use Rattle.fut_main.specs.Outcomes.{OutcomeOf, IsOutcome, ending_of};
+ghost use Rattle.fut_main.specs.declared.words.Command.TheVariants as command;
 
 use crate::serial::run_serially;
 use crate::status::Status;
+use crate::words::Command;
 use fut_base::list::NoMemory;
-use fut_base::record::{Finish, History, Races};
+use fut_base::record::{Finish, History, Races, Text};
+use fut_check::{CheckFault, check};
 use fut_syntax::tree::Program;
-use fut_syntax::{ParseFault, parse};
+use fut_syntax::{ParseFault, parse, print};
 use race_report::found_of;
 use std::alloc::Global;
 use task_machine::code::Code;
@@ -20,16 +24,17 @@ use task_machine::small::small;
 /// The greatest number of entries of a run.
 const BOUND: u32 = 1000;
 
-/// What came of a text: how its run ended, the history of the run and its races.
+/// What came of a text: the status, the history of its run and its races, and the canonical text where it was printed.
 #[derive(Drop)]
 pub struct Outcome {
     pub status: Status,
     pub history: History,
     pub races: Races,
+    pub printed: Text,
 }
 
 impl Outcome {
-    /// No run was made.
+    /// No run was made, and nothing was printed.
     fn without_run(alloc: Global, status: Status) -> Outcome
         ensures status { result.status ≡ status }
         ensures history { events_of result.history ≡ [] }
@@ -38,27 +43,62 @@ impl Outcome {
             status,
             history: History::make(alloc),
             races: Races::make(alloc),
+            printed: Text::make(alloc),
         }
     }
 }
 
-/// The outcome of a text of at most 4,096 bytes.
-pub fn outcome_of(alloc: Global, text: &[u8]) -> Outcome
-    requires { length text.now ≤ 4096 }
-    ensures { IsOutcome text.now result.status (events_of result.history) result.races.items }
+/// What comes of a text of at most 1,048,576 bytes.
+pub fn outcome_of(alloc: Global, command: Command, text: &[u8]) -> Outcome
+    requires { length text.now ≤ 1048576 }
+    ensures { IsOutcome command text.now result.status (events_of result.history) result.races.items result.printed.items }
 {
     match parse(alloc, text) {
-        Ok(program) => outcome_of_program(alloc, &program),
-        Err(ParseFault::Syntax { .. }) => Outcome::without_run(alloc, Status::Unbuilt),
+        Ok(program) => outcome_of_program(alloc, command, &program),
+        Err(ParseFault::Syntax { line, column }) => Outcome::without_run(alloc, Status::Syntax { line, column }),
         Err(ParseFault::NoMemory) => Outcome::without_run(alloc, Status::NoMemory),
     }
 }
 
-/// The outcome of a program: it is run where it is small and its text has no comment.
-fn outcome_of_program(alloc: Global, program: &Program) -> Outcome
-    ensures { OutcomeOf program.now result.status (events_of result.history) result.races.items }
+/// What comes of a program: its type rules are checked first.
+fn outcome_of_program(alloc: Global, command: Command, program: &Program) -> Outcome
+    requires { HasPlaces program.now }
+    ensures { OutcomeOf command program.now result.status (events_of result.history) result.races.items result.printed.items }
 {
-    if program.comments || !small(program) {
+    match check(alloc, program) {
+        Ok(_) => match command {
+            Command::Check => printed(alloc, program),
+            Command::Run => run_if_small(alloc, program),
+        },
+        Err(CheckFault::IllTyped { rule, line, column }) => {
+            Outcome::without_run(alloc, Status::IllTyped { rule, line, column })
+        }
+        Err(CheckFault::NoMemory) => Outcome::without_run(alloc, Status::NoMemory),
+    }
+}
+
+/// Prints a well-typed program.
+fn printed(alloc: Global, program: &Program) -> Outcome
+    requires { IsChecked program.now }
+    ensures { OutcomeOf command.Check program.now result.status (events_of result.history) result.races.items result.printed.items }
+{
+    match print(alloc, program) {
+        Ok(printed) => Outcome {
+            status: Status::Accepted,
+            history: History::make(alloc),
+            races: Races::make(alloc),
+            printed,
+        },
+        Err(NoMemory) => Outcome::without_run(alloc, Status::NoMemory),
+    }
+}
+
+/// Runs a well-typed program, where it is small.
+fn run_if_small(alloc: Global, program: &Program) -> Outcome
+    requires { IsChecked program.now }
+    ensures { OutcomeOf command.Run program.now result.status (events_of result.history) result.races.items result.printed.items }
+{
+    if !small(program) {
         return Outcome::without_run(alloc, Status::Unbuilt);
     }
     match run_program(alloc, program) {
@@ -80,6 +120,7 @@ fn run_program(alloc: Global, program: &Program) -> Result<Outcome, NoMemory>
         status,
         history: run.history,
         races,
+        printed: Text::make(alloc),
     })
 }
 

@@ -4,10 +4,16 @@ use fut_base::record::{Finish, History};
 /// How a call ended.
 #[derive(Clone, Copy, Debug, PartialEq, Eq)]
 pub enum Status {
+    /// The text is a program that breaks no type rule.
+    Accepted,
     /// The run is whole and has no race.
     Clean,
     /// The run is whole and has a race.
     Raced,
+    /// The text is no program. Its first token that can't come stands here.
+    Syntax { line: u32, column: u32 },
+    /// The text is a program that breaks a type rule. Its first fault breaks the rule of this number, and stands here.
+    IllTyped { rule: u32, line: u32, column: u32 },
     /// The run is not whole, and ended so.
     Spent { finish: Finish },
     /// A take of the source failed.
@@ -17,7 +23,9 @@ pub enum Status {
     NoMemory,
     /// The words have no form that forder knows.
     Usage,
-    /// The text is none that forder runs.
+    /// The text is longer than 1,048,576 bytes.
+    TooLong,
+    /// The text is a well-typed program, but none that forder runs.
     Unbuilt,
 }
 
@@ -30,13 +38,16 @@ impl Status {
         ensures { result ≡ status_number self }
     {
         match self {
-            Status::Clean => 0,
+            Status::Accepted | Status::Clean => 0,
             Status::Raced => 1,
+            Status::Syntax { .. } => 2,
+            Status::IllTyped { .. } => 3,
             Status::Spent { .. } => 4,
             Status::ReadFault => 6,
             Status::WriteFault => 7,
             Status::NoMemory => 8,
             Status::Usage => 9,
+            Status::TooLong => 10,
             Status::Unbuilt => 11,
         }
     }

@@ -1,7 +1,8 @@
-//! The top call.
-ghost use Rattle.std.specs.Prelude.{◌≡◌};
+//! The top calls.
+ghost use Rattle.std.specs.Prelude.{◌≡◌, true, false};
 ghost use Rattle.fut_base.specs.Events.{events_of};
-ghost use Rattle.fut_main.specs.Verdict.{Asked, Told, IsAnswer, IsUnhindered, EndsRun};
+ghost use Rattle.fut_main.specs.Asking.{Asked};
+ghost use Rattle.fut_main.specs.Verdict.{Told, IsAnswer, IsUnhindered, IsFree};
 ghost use Rattle.fut_main.specs.declared.status.Status.TheVariants as status;
 
 use crate::judge::judge;
@@ -11,11 +12,11 @@ use fut_base::gate::Gate;
 use fut_base::ports::{Sink, Source, Wrote};
 use std::alloc::Global;
 
-/// Does what the words ask for: reads a program text from the source, runs it, and writes the record of the run and its
-/// races to the sink.
+/// Does what the words ask for: reads a program text from the source, and writes to the sink the record of its run with
+/// the races of that run, or its canonical text.
 ///
-/// The words are `run --workers 1`; for all others the answer is `Usage`, and nothing is read. The history is that of the
-/// run, also where the sink failed while its record was written; where no run was made it is empty.
+/// The words are `run --workers 1` or `check`; for all others the answer is `Usage`, and nothing is read. The history is
+/// that of the run, also where the sink failed while its record was written; where no run was made it is empty.
 pub fn forder<R, S: Source, K: Sink, G: Gate>(
     _rt: &R,
     alloc: Global,
@@ -26,20 +27,66 @@ pub fn forder<R, S: Source, K: Sink, G: Gate>(
 ) -> Ended
     // The status, the history and what was written are those of a verdict whose causes hold.
     ensures answer { IsAnswer
-        (record { words = words.now; left_before = S.left source.old; left_after = S.left source.new; ended = S.ended source.new; faults_before = S.faults source.old; faults_after = S.faults source.new })
+        (record { may_run = true; words = words.now; left_before = S.left source.old; left_after = S.left source.new; ended = S.ended source.new; faults_before = S.faults source.old; faults_after = S.faults source.new })
         (record { held_before = K.held out.old; held_after = K.held out.new; faults_before = K.faults out.old; faults_after = K.faults out.new })
         result.status (events_of result.history) }
 
-    // A small text that nothing hinders is run.
+    // A well-typed program that nothing hinders is printed or run.
     ensures complete { IsUnhindered
-        (record { words = words.now; left_before = S.left source.old; left_after = S.left source.new; ended = S.ended source.new; faults_before = S.faults source.old; faults_after = S.faults source.new })
+        (record { may_run = true; words = words.now; left_before = S.left source.old; left_after = S.left source.new; ended = S.ended source.new; faults_before = S.faults source.old; faults_after = S.faults source.new })
         (record { held_before = K.held out.old; held_after = K.held out.new; faults_before = K.faults out.old; faults_after = K.faults out.new })
-        → EndsRun result.status }
+        → IsFree
+        (record { may_run = true; words = words.now; left_before = S.left source.old; left_after = S.left source.new; ended = S.ended source.new; faults_before = S.faults source.old; faults_after = S.faults source.new })
+        result.status }
 
     // With other words nothing is read.
     ensures usage { result.status ≡ status.Usage → source.new ≡ source.old }
 {
-    let verdict = judge(alloc, words, source);
+    answer(alloc, words, true, source, out)
+}
+
+/// What `forder` does for the words `check`. For all others, a run among them, the answer is `Usage`, and nothing is read.
+pub fn plain<S: Source, K: Sink>(alloc: Global, words: &Words, source: &mut S, out: &mut K) -> Ended
+    // The status, the history and what was written are those of a verdict whose causes hold.
+    ensures answer { IsAnswer
+        (record { may_run = false; words = words.now; left_before = S.left source.old; left_after = S.left source.new; ended = S.ended source.new; faults_before = S.faults source.old; faults_after = S.faults source.new })
+        (record { held_before = K.held out.old; held_after = K.held out.new; faults_before = K.faults out.old; faults_after = K.faults out.new })
+        result.status (events_of result.history) }
+
+    // A well-typed program that nothing hinders is printed or run.
+    ensures complete { IsUnhindered
+        (record { may_run = false; words = words.now; left_before = S.left source.old; left_after = S.left source.new; ended = S.ended source.new; faults_before = S.faults source.old; faults_after = S.faults source.new })
+        (record { held_before = K.held out.old; held_after = K.held out.new; faults_before = K.faults out.old; faults_after = K.faults out.new })
+        → IsFree
+        (record { may_run = false; words = words.now; left_before = S.left source.old; left_after = S.left source.new; ended = S.ended source.new; faults_before = S.faults source.old; faults_after = S.faults source.new })
+        result.status }
+
+    // With other words nothing is read.
+    ensures usage { result.status ≡ status.Usage → source.new ≡ source.old }
+{
+    answer(alloc, words, false, source, out)
+}
+
+/// Judges, and writes the text that is due.
+fn answer<S: Source, K: Sink>(alloc: Global, words: &Words, may_run: bool, source: &mut S, out: &mut K) -> Ended
+    // The status, the history and what was written are those of a verdict whose causes hold.
+    ensures answer { IsAnswer
+        (record { may_run = may_run; words = words.now; left_before = S.left source.old; left_after = S.left source.new; ended = S.ended source.new; faults_before = S.faults source.old; faults_after = S.faults source.new })
+        (record { held_before = K.held out.old; held_after = K.held out.new; faults_before = K.faults out.old; faults_after = K.faults out.new })
+        result.status (events_of result.history) }
+
+    // A well-typed program that nothing hinders is printed or run.
+    ensures complete { IsUnhindered
+        (record { may_run = may_run; words = words.now; left_before = S.left source.old; left_after = S.left source.new; ended = S.ended source.new; faults_before = S.faults source.old; faults_after = S.faults source.new })
+        (record { held_before = K.held out.old; held_after = K.held out.new; faults_before = K.faults out.old; faults_after = K.faults out.new })
+        → IsFree
+        (record { may_run = may_run; words = words.now; left_before = S.left source.old; left_after = S.left source.new; ended = S.ended source.new; faults_before = S.faults source.old; faults_after = S.faults source.new })
+        result.status }
+
+    // With other words nothing is read.
+    ensures usage { result.status ≡ status.Usage → source.new ≡ source.old }
+{
+    let verdict = judge(alloc, words, may_run, source);
     match verdict.write(out) {
         Wrote::All => Ended {
             status: verdict.status,

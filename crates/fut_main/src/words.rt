@@ -1,5 +1,6 @@
 //! The words of the command line.
 ghost use Rattle.std.specs.Prelude.{◌≡◌, ◌↔◌, [], ◌∷◌, ◌++◌, IsTrue, OnOk, OnErr, codes, string_bytes};
+ghost use Rattle.fut_main.specs.Asking.{Commands};
 
 use fut_base::list::NoMemory;
 use std::alloc::Global;
@@ -53,6 +54,36 @@ impl Words {
         let is_number = is_text(number, "1");
         is_command && is_option && is_number
     }
+
+    /// Whether the words are `check`.
+    pub fn is_check(&self) -> bool
+        ensures { IsTrue result ↔ (self.now ≡ codes "check" ∷ []) }
+    {
+        let [command] = self.all.as_slice() else {
+            return false;
+        };
+        is_text(command, "check")
+    }
+
+    /// What the words ask for, if they have a form that is known: `check`, and `run --workers 1` where runs are made.
+    pub fn command(&self, may_run: bool) -> Option<Command>
+        ensures { Commands may_run self.now result }
+    {
+        if self.is_check() {
+            return Some(Command::Check);
+        }
+        if may_run && self.is_run() {
+            return Some(Command::Run);
+        }
+        None
+    }
+}
+
+/// What words ask for.
+#[derive(Clone, Copy, PartialEq, Eq)]
+pub enum Command {
+    Run,
+    Check,
 }
 
 fn is_text(word: &String, text: &str) -> bool
