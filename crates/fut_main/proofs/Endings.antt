@@ -57,22 +57,22 @@ tree_is text p P parsed is = let both : Some P ≡ Some parsed.0.0 = sym is ∙ 
 
 was_run : (c : Command) (text : List ℕ) (p : declared.Program) (s : Status) (h : List Event) (races : List Race) → Parses text (Ok p) → WasRun c p s h races → TextWasRun c text s h races
 was_run c text p s h races parsed run = (
-      run.0,
-      (parsed.0.0, typed text p parsed run.1, subst (λ o. IsSomeAnd o IsSmall) parsed.0.1 run.2, subst (λ o. IfSome o (λ Q. EndsIn Q s h races)) parsed.0.1 run.3),
-    )
+  run.0,
+  (parsed.0.0, typed text p parsed run.1, subst (λ o. IsSomeAnd o IsSmall) parsed.0.1 run.2, subst (λ o. IfSome o (λ Q. EndsIn Q s h races)) parsed.0.1 run.3),
+)
 
 faulty : (text : List ℕ) (p : declared.Program) (number : ℕ) (place : Place) → Parses text (Ok p) → IsFaultOf p number place → IsIllTypedText text number place
 faulty text p number place parsed f = record {
-      tree = f.tree;
-      program = subst (λ P. IsProgram text P) (sym (tree_is text p f.tree parsed f.is)) parsed.0.2;
-      fault = f.fault;
-      first = f.first;
-      rule = f.rule;
-      tokens = parsed.1.0;
-      places = p.places;
-      cut = parsed.1.1;
-      stands = f.stands;
-    }
+  tree = f.tree;
+  program = subst (λ P. IsProgram text P) (sym (tree_is text p f.tree parsed f.is)) parsed.0.2;
+  fault = f.fault;
+  first = f.first;
+  rule = f.rule;
+  tokens = parsed.1.0;
+  places = p.places;
+  cut = parsed.1.1;
+  stands = f.stands;
+}
 
 pub outcome : (c : Command) (text : List ℕ) (p : declared.Program) (s : Status) (h : List Event) (races : List Race) (printed : List ℕ) → Parses text (Ok p) → OutcomeOf c p s h races printed → IsOutcome c text s h races printed
 outcome c text p status.Accepted h races printed parsed o = (o.0, o.1, (parsed.0.0, typed text p parsed o.2, o.3 parsed.0.0 parsed.0.1))
@@ -98,17 +98,17 @@ judged a c text status.Clean h races printed words read o = of_run a c text stat
 judged a c text status.Raced h races printed words read o = of_run a c text status.Raced finish.Whole h races _ words read o refl
 judged a c text (status.Spent end) h races printed words read o = of_run a c text (status.Spent end) end h races _ words read o refl
 judged a c text status.Accepted h races printed words read o = (
-      subst (Asks a) o.0 words,
-      record { command = c; words = words; no_run = o.1; is_due = refl; bytes = text; read = read; holds = o.2 },
-    )
+  subst (Asks a) o.0 words,
+  record { command = c; words = words; no_run = o.1; is_due = refl; bytes = text; read = read; holds = o.2 },
+)
 judged a c text (status.Syntax line column) h races printed words read o =
     record { command = c; words = words; no_run = o.0; is_due = refl; bytes = text; read = read; holds = o.1 }
 judged a c text (status.IllTyped rule line column) h races printed words read o =
     record { command = c; words = words; no_run = o.0; is_due = refl; bytes = text; read = read; holds = o.1 }
 judged a c text status.Unbuilt h races printed words read o = (
-      subst (Asks a) o.0 words,
-      record { command = c; words = words; no_run = o.1; is_due = refl; bytes = text; read = read; holds = o.2 },
-    )
+  subst (Asks a) o.0 words,
+  record { command = c; words = words; no_run = o.1; is_due = refl; bytes = text; read = read; holds = o.2 },
+)
 judged a c text status.NoMemory h races printed words read o = (o, refl, read.quiet)
 judged a c text status.ReadFault h races printed words read o = absurd o
 judged a c text status.WriteFault h races printed words read o = absurd o

@@ -55,7 +55,10 @@ pub fn outcome_of(alloc: Global, command: Command, text: &[u8]) -> Outcome
 {
     match parse(alloc, text) {
         Ok(program) => outcome_of_program(alloc, command, &program),
-        Err(ParseFault::Syntax { line, column }) => Outcome::without_run(alloc, Status::Syntax { line, column }),
+        Err(ParseFault::Syntax { line, column }) => Outcome::without_run(
+            alloc,
+            Status::Syntax { line, column },
+        ),
         Err(ParseFault::NoMemory) => Outcome::without_run(alloc, Status::NoMemory),
     }
 }

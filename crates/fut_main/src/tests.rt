@@ -1,6 +1,6 @@
 //! Worked runs, by the call that `main` makes.
 use crate::status::{Ended, Status};
-use crate::top::forder;
+use crate::top::{forder, plain};
 use crate::words::Words;
 use fut_base::gate::FreeGate;
 use fut_base::memory::{MemSink, MemSource};
@@ -10,8 +10,11 @@ use fut_base::standard::{StdSink, StdSource};
 use std::alloc::Global;
 use std::test::Fail;
 
-/// The words of the one form.
+/// The words for a run.
 const RUN: [&str; 3] = ["run", "--workers", "1"];
+
+/// The words for a check.
+const CHECK: [&str; 1] = ["check"];
 
 /// A child writes, and its parent before it waits.
 const RACE: &str =
@@ -29,6 +32,9 @@ const SYNC_RECORD: &str =
 
 const ONE_RECORD: &str =
     "forder 1\nprogram 29\ntask main() int { return 0; }\nentries 1\n0 t0 s0 end 0\nraces 0\nfinish whole\nend\n";
+
+const COMMENT_RECORD: &str =
+    "forder 1\nprogram 42\ntask main() int { return 0; } // a comment\nentries 1\n0 t0 s0 end 0\nraces 0\nfinish whole\nend\n";
 
 /// What came of a call.
 #[derive(Drop)]
@@ -74,21 +80,32 @@ fn records_of_runs(rt: HostRuntime) -> Result<(), Fail> {
         (RACE, Status::Raced, RACE_RECORD),
         (SYNC, Status::Clean, SYNC_RECORD),
         (
+            "task main() int { return 0; } // a comment",
+            Status::Clean,
+            COMMENT_RECORD,
+        ),
+        (
             "task main() int { return 1 + 1; }",
             Status::Unbuilt,
             "not built\n",
         ),
         (
-            "task main() int { return 0; } // a comment",
-            Status::Unbuilt,
-            "not built\n",
+            "task main() int { return x; }",
+            Status::IllTyped {
+                rule: 1,
+                line: 1,
+                column: 26,
+            },
+            "type 1 1:26\n",
         ),
         (
             "task main() int { retrun 0; }",
-            Status::Unbuilt,
-            "not built\n",
+            Status::Syntax {
+                line: 1,
+                column: 26,
+            },
+            "syntax 1:26\n",
         ),
-        ("", Status::Unbuilt, "not built\n"),
     ];
     for (text, status, record) in cases {
         let answer = run(rt.alloc(), text)?;
@@ -179,18 +196,104 @@ fn a_run_that_is_spent(rt: HostRuntime) -> Result<(), Fail> {
     Ok(())
 }
 
+/// The greatest length of a text, in bytes.
+const LONGEST: usize = 1_048_576;
+
 #[test]
-fn the_longest_text(rt: HostRuntime) -> Result<(), Fail> {
+fn the_longest_texts(rt: HostRuntime) -> Result<(), Fail> {
     let alloc = rt.alloc();
-    let mut text = String::from_str(alloc, "task main() int { return 0; }")?;
-    while text.len() < 4096 {
-        text.push_str(" ")?;
+    let mut text = String::from_str(alloc, "")?;
+    while text.len() < LONGEST {
+        text.push_str("                                ")?;
     }
-    let answer = run(alloc, text.as_str())?;
-    assert_eq!(rt; answer.status, Status::Clean);
+    let answer = call_forder(alloc, &CHECK, text.as_str(), 4096, &[], &[])?;
+    let status = Status::Syntax {
+        line: 1,
+        column: 1_048_577,
+    };
+    assert_eq!(rt; answer.status, status);
+    assert_eq!(rt; answer.text.as_slice(), b"syntax 1:1048577\n".as_slice());
     text.push_str(" ")?;
-    let answer = run(alloc, text.as_str())?;
-    assert_eq!(rt; answer.status, Status::Unbuilt);
+    for words in [CHECK.as_slice(), RUN.as_slice()] {
+        let answer = call_forder(alloc, words, text.as_str(), 4096, &[], &[])?;
+        assert_eq!(rt; answer.status, Status::TooLong);
+        assert_eq!(rt; answer.text.as_slice(), b"too long\n".as_slice());
+    }
+    Ok(())
+}
+
+#[test]
+fn answers_of_check(rt: HostRuntime) -> Result<(), Fail> {
+    let cases = [
+        (
+            "task main() int { return 0; }",
+            "task main ( ) int { return 0 ; }\n",
+        ),
+        ("", "syntax 1:1\n"),
+        (
+            "task main() int { var x: int; var y: int = get x; return y; }",
+            "type 4 1:48\n",
+        ),
+        ("task main() int { return 1 + 1 + 1; }", "syntax 1:32\n"),
+        ("task main() int { x = 1; return 0; }", "type 1 1:19\n"),
+        (
+            "task f() fut int { return 0; } task main() int { return 0; }",
+            "type 8 1:27\n",
+        ),
+        ("cells a[0]; task main() int { return 0; }", "type 12 1:9\n"),
+        ("task f() int { return 0; }", "type 9 1:27\n"),
+    ];
+    for (text, answer) in cases {
+        let given = call_forder(rt.alloc(), &CHECK, text, 16, &[], &[])?;
+        assert_eq!(rt; given.text.as_slice(), answer.as_bytes(), "{text}");
+        assert_eq!(rt; given.entries, 0);
+    }
+    Ok(())
+}
+
+#[test]
+fn deep_brackets(rt: HostRuntime) -> Result<(), Fail> {
+    let alloc = rt.alloc();
+    for (depth, status) in [
+        (63, Status::Accepted),
+        (
+            64,
+            Status::Syntax {
+                line: 1,
+                column: 89,
+            },
+        ),
+    ] {
+        let mut text = String::from_str(alloc, "task main() int { return ")?;
+        for _ in 0..depth {
+            text.push_str("(")?;
+        }
+        text.push_str("0")?;
+        for _ in 0..depth {
+            text.push_str(")")?;
+        }
+        text.push_str("; }")?;
+        let answer = call_forder(alloc, &CHECK, text.as_str(), 4096, &[], &[])?;
+        assert_eq!(rt; answer.status, status, "{depth}");
+    }
+    Ok(())
+}
+
+#[test]
+fn plain_makes_no_runs(rt: HostRuntime) -> Result<(), Fail> {
+    let alloc = rt.alloc();
+    for (word, status) in [("check", Status::Accepted), ("run", Status::Usage)] {
+        let mut words = Words::make(alloc);
+        words.push(word)?;
+        if word == "run" {
+            words.push("--workers")?;
+            words.push("1")?;
+        }
+        let mut source = MemSource::make(alloc, b"task main() int { return 0; }", 16, &[])?;
+        let mut out = MemSink::make(alloc, 1000, 16, &[])?;
+        let answer = plain(alloc, &words, &mut source, &mut out);
+        assert_eq!(rt; answer.status, status, "{word}");
+    }
     Ok(())
 }
 

@@ -68,7 +68,13 @@ pub fn plain<S: Source, K: Sink>(alloc: Global, words: &Words, source: &mut S, o
 }
 
 /// Judges, and writes the text that is due.
-fn answer<S: Source, K: Sink>(alloc: Global, words: &Words, may_run: bool, source: &mut S, out: &mut K) -> Ended
+fn answer<S: Source, K: Sink>(
+    alloc: Global,
+    words: &Words,
+    may_run: bool,
+    source: &mut S,
+    out: &mut K,
+) -> Ended
     // The status, the history and what was written are those of a verdict whose causes hold.
     ensures answer { IsAnswer
         (record { may_run = may_run; words = words.now; left_before = S.left source.old; left_after = S.left source.new; ended = S.ended source.new; faults_before = S.faults source.old; faults_after = S.faults source.new })
