@@ -14,6 +14,6 @@ pub args_step : (vs : List Variable) (found next : Option Fault) (n m : ℕ) (ps
     → least found (args_faults vs n ps (e ∷ es)) ≡ least next (args_faults vs m qs es)
 args_step vs found next n m ps qs e es f a p =
     least_append found (needed_faults vs n (next_need ps) e) (args_faults vs (n + expr_width e + 1) (later ps) es)
-        ∙ ap (λ x. least x (args_faults vs (n + expr_width e + 1) (later ps) es)) (sym f)
-        ∙ ap (λ x. least next (args_faults vs x (later ps) es)) (sym a)
-        ∙ ap (λ x. least next (args_faults vs m x es)) (sym p)
+    ∙ ap (λ x. least x (args_faults vs (n + expr_width e + 1) (later ps) es)) (sym f)
+    ∙ ap (λ x. least next (args_faults vs x (later ps) es)) (sym a)
+    ∙ ap (λ x. least next (args_faults vs m x es)) (sym p)

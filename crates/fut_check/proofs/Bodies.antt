@@ -30,8 +30,8 @@ if_passed g s s1 s2 a a1 a2 a3 a4 e b o test body close tail =
     record {
       walked = walked_as (walked_both (walked_both test body.walked) (past_walked close tail.walked)) (omega arith)
           (ap (λ n. needed_faults s.visible (a.at + 1) for_int e ++ block_faults g s n b ++ tail_faults g s1 a3.at o) first
-              ∙ ap (λ n. needed_faults s.visible (a.at + 1) for_int e ++ block_faults g s (a.at + 1 + expr_width e + 1) b ++ tail_faults g s1 n o) second
-              ∙ ap (λ x. needed_faults s.visible (a.at + 1) for_int e ++ block_faults g s (a.at + 1 + expr_width e + 1) b ++ tail_faults g x (a.at + 1 + expr_width e + 1 + block_width b + 1) o) body.scope_is);
+          ∙ ap (λ n. needed_faults s.visible (a.at + 1) for_int e ++ block_faults g s (a.at + 1 + expr_width e + 1) b ++ tail_faults g s1 n o) second
+          ∙ ap (λ x. needed_faults s.visible (a.at + 1) for_int e ++ block_faults g s (a.at + 1 + expr_width e + 1) b ++ tail_faults g x (a.at + 1 + expr_width e + 1 + block_width b + 1) o) body.scope_is);
       scope_is = tail.scope_is ∙ ap (λ x. with_declared x (declared_in_tail o)) body.scope_is ∙ declared_twice s (declared_in_block b) (declared_in_tail o);
     }
 
@@ -65,9 +65,9 @@ pub block_step : (g : List Item) (s s1 : Scope) (a a1 : Searched) (x : Stmt) (b 
     → least a.found (block_faults g s a.at (Then x b)) ≡ least a1.found (block_faults g s1 a1.at b)
 block_step g s s1 a a1 x b p =
     least_append a.found (stmt_faults g s a.at x) (block_faults g (scope_after s x) (a.at + stmt_width x) b)
-        ∙ ap (λ f. least f (block_faults g (scope_after s x) (a.at + stmt_width x) b)) (sym p.walked.found)
-        ∙ ap (λ n. least a1.found (block_faults g (scope_after s x) n b)) (sym p.walked.at)
-        ∙ ap (λ t. least a1.found (block_faults g t a1.at b)) (sym p.scope_is)
+    ∙ ap (λ f. least f (block_faults g (scope_after s x) (a.at + stmt_width x) b)) (sym p.walked.found)
+    ∙ ap (λ n. least a1.found (block_faults g (scope_after s x) n b)) (sym p.walked.at)
+    ∙ ap (λ t. least a1.found (block_faults g t a1.at b)) (sym p.scope_is)
 
 pub declared_step : (s s1 : Scope) (x : Stmt) (b : Block) → s1 ≡ scope_after s x
     → s1.declared ++ declared_in_block b ≡ s.declared ++ declared_in_block (Then x b)

@@ -42,7 +42,7 @@ body_faults_are g s n m d b lacks e l a = rw (l, e, a) refl
 pub head_faults_are : (g before : List Item) (n : ℕ) (w : List ℕ) (ps : List Param) (d : ℕ) (count m1 m2 m3 m4 : ℕ) (main : Bool) (declared : List Variable)
     → count ≡ tasks before → main ≡ (is_main w && has_params ps) → declared ≡ [] → m1 ≡ n + 1 → m2 ≡ n + 3 → m3 ≡ n + 3 → m4 ≡ n + 3 + params_width ps
     → (fault_if (declares before w) m1 rule.DoubledName ++ fault_if (nat_eq count 256) m1 rule.ConstantLimit)
-        ++ fault_if main m2 rule.MainParameters ++ params_faults g declared m3 ps ++ depth_faults m4 d ≡ head_faults g before n w ps d
+    ++ fault_if main m2 rule.MainParameters ++ params_faults g declared m3 ps ++ depth_faults m4 d ≡ head_faults g before n w ps d
 head_faults_are g before n w ps d count m1 m2 m3 m4 main declared t h v a b c e = rw (t, h, v, a, b, c, e) refl
 
 pub task_faults_are : (g before : List Item) (n : ℕ) (w : List ℕ) (ps : List Param) (d : ℕ) (b : Block) (m : ℕ) (s : Scope)

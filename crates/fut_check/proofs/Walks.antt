@@ -22,8 +22,8 @@ pub items_step : (g before : List Item) (a a1 : Searched) (x : Item) (rest : Lis
     → least a.found (items_faults g before a.at (x ∷ rest)) ≡ least a1.found (items_faults g (before ++ x ∷ []) a1.at rest)
 items_step g before a a1 x rest w =
     least_append a.found (item_faults g before a.at x) (items_faults g (before ++ x ∷ []) (a.at + item_width x) rest)
-        ∙ ap (λ f. least f (items_faults g (before ++ x ∷ []) (a.at + item_width x) rest)) (sym w.found)
-        ∙ ap (λ n. least a1.found (items_faults g (before ++ x ∷ []) n rest)) (sym w.at)
+    ∙ ap (λ f. least f (items_faults g (before ++ x ∷ []) (a.at + item_width x) rest)) (sym w.found)
+    ∙ ap (λ n. least a1.found (items_faults g (before ++ x ∷ []) n rest)) (sym w.at)
 
 pub tasks_few : (i : Item) → tasks (i ∷ []) ≤ item_width i
 tasks_few (CellsOf w n) = omega arith

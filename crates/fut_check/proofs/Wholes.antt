@@ -28,7 +28,7 @@ pub found_in : (p : declared.Program) (h : HasPlaces p) (xs : List code.Item) (s
     → Walked start last (items_width (items_tree xs)) (items_faults (items_tree xs) [] start.at (items_tree xs)) → last.found ≡ least None (faults_of h.tree)
 found_in p h xs start last end e s w =
     w.found ∙ ap (λ (q : Searched). least q.found (items_faults (items_tree xs) [] q.at (items_tree xs))) s
-        ∙ ap (λ is. least None (items_faults is [] 0 is)) (ap items_tree e ∙ tree_items p.items h.tree h.is)
+    ∙ ap (λ is. least None (items_faults is [] 0 is)) (ap items_tree e ∙ tree_items p.items h.tree h.is)
 
 pub is_checked : (p : declared.Program) (h : HasPlaces p) (found : Option Fault) → found ≡ least None (faults_of h.tree) → found ≡ None → IsChecked p
 is_checked p h found f e = subst (λ (o : Option Program). IsSomeAnd o IsWellTyped) (sym h.is) (none_found (faults_of h.tree) (sym f ∙ e))

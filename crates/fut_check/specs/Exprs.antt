@@ -45,7 +45,7 @@ abbrev mutual
   expr_faults vs n (Alone x) = operand_faults vs n x
   expr_faults vs n (Pair x o y) =
       (operand_faults vs n x ++ broken (unmet for_int (operand_kind vs x)) n)
-          ++ (operand_faults vs (n + operand_width x + 1) y ++ broken (unmet for_int (operand_kind vs y)) (n + operand_width x + 1))
+      ++ (operand_faults vs (n + operand_width x + 1) y ++ broken (unmet for_int (operand_kind vs y)) (n + operand_width x + 1))
 
   pub operand_faults : List Variable → ℕ → Operand → List Fault
   operand_faults vs n (Signed NoSign p) = primary_faults vs n p

@@ -25,7 +25,7 @@ is_over before kind = nat_eq (length before) 8 || nat_lt 16 (slots before + size
 abbrev pub param_faults : List Item → List Variable → ℕ → Param → List Fault
 param_faults globals before n p =
     declared_faults globals before n (param_variable p) ++ fault_if (is_over before (kind_of p.type)) n rule.ConstantLimit
-        ++ type_faults (n + 2) p.type
+    ++ type_faults (n + 2) p.type
 
 -- the faults of parameters behind others
 abbrev pub params_faults : List Item → List Variable → ℕ → List Param → List Fault
@@ -68,9 +68,9 @@ is_bad_array before m = nat_eq m 0 || nat_lt 65536 (cells before + m)
 abbrev pub head_faults : List Item → List Item → ℕ → List ℕ → List Param → ℕ → List Fault
 head_faults globals before n w ps d =
     (fault_if (declares before w) (n + 1) rule.DoubledName ++ fault_if (nat_eq (tasks before) 256) (n + 1) rule.ConstantLimit)
-        ++ fault_if (is_main w && has_params ps) (n + 3) rule.MainParameters
-        ++ params_faults globals [] (n + 3) ps
-        ++ depth_faults (n + 3 + params_width ps) d
+    ++ fault_if (is_main w && has_params ps) (n + 3) rule.MainParameters
+    ++ params_faults globals [] (n + 3) ps
+    ++ depth_faults (n + 3 + params_width ps) d
 
 -- the faults of an item behind others
 abbrev pub item_faults : List Item → List Item → ℕ → Item → List Fault

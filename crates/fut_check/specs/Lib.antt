@@ -6,6 +6,7 @@ pub mod Faults
 pub mod Inits
 pub mod Items
 pub mod Kinds
+pub mod Laws
 pub mod Names
 pub mod Passing
 pub mod Stmts

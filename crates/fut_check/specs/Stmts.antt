@@ -110,24 +110,24 @@ abbrev mutual
   pub stmt_faults : List Item → Scope → ℕ → Stmt → List Fault
   stmt_faults globals s n (Declare w v) =
       declared_faults globals s.declared (n + 1) (variable w v) ++ type_faults (n + 3) v
-          ++ fault_if (is_handle (kind_of v)) (n + 1) rule.NoValue
+      ++ fault_if (is_handle (kind_of v)) (n + 1) rule.NoValue
   stmt_faults globals s n (Define w v i) =
       declared_faults globals s.declared (n + 1) (variable w v) ++ type_faults (n + 3) v
-          ++ init_faults globals s.visible (n + 3 + type_width v + 1) (Some (init_need (kind_of v))) i
+      ++ init_faults globals s.visible (n + 3 + type_width v + 1) (Some (init_need (kind_of v))) i
   stmt_faults globals s n (Assign w i) =
       broken (assigned_rule (kind_named s.visible w)) n
-          ++ init_faults globals s.visible (n + 2) (value_need (kind_named s.visible w)) i
+      ++ init_faults globals s.visible (n + 2) (value_need (kind_named s.visible w)) i
   stmt_faults globals s n (Store w e f) =
       broken (element_rule (kind_named s.visible w) (means_cells (declaration globals w))) n
-          ++ needed_faults s.visible (n + 2) for_int e
-          ++ needed_faults s.visible (n + 2 + expr_width e + 2)
-              (value_need (element (kind_named s.visible w) (means_cells (declaration globals w)))) f
+      ++ needed_faults s.visible (n + 2) for_int e
+      ++ needed_faults s.visible (n + 2 + expr_width e + 2)
+      (value_need (element (kind_named s.visible w) (means_cells (declaration globals w)))) f
   stmt_faults globals s n (SpawnOf w es) = call_faults globals s.visible (n + 1) w es
   stmt_faults globals s n SyncAll = []
   stmt_faults globals s n (If' e b o) =
       needed_faults s.visible (n + 1) for_int e
-          ++ block_faults globals s (n + 1 + expr_width e + 1) b
-          ++ tail_faults globals (with_declared s (declared_in_block b)) (n + 1 + expr_width e + 1 + block_width b + 1) o
+      ++ block_faults globals s (n + 1 + expr_width e + 1) b
+      ++ tail_faults globals (with_declared s (declared_in_block b)) (n + 1 + expr_width e + 1 + block_width b + 1) o
   stmt_faults globals s n (While' e b) =
       needed_faults s.visible (n + 1) for_int e ++ block_faults globals s (n + 1 + expr_width e + 1) b
   stmt_faults globals s n (Return' e) =

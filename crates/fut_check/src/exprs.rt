@@ -72,7 +72,10 @@ pub fn walk_expr(search: &mut Search, variables: &[Variable], expr: &Expr)
             search.skip(1);
             let second = search.at();
             walk_operand(search, variables, right);
-            search.note(unmet(Some(Need::Int), operand_kind(variables, right)), second);
+            search.note(
+                unmet(Some(Need::Int), operand_kind(variables, right)),
+                second,
+            );
         }
     }
 }
@@ -99,7 +102,10 @@ fn walk_signed(search: &mut Search, variables: &[Variable], primary: &Primary)
     search.skip(1);
     let first = search.at();
     walk_primary(search, variables, primary);
-    search.note(unmet(Some(Need::Int), primary_kind(variables, primary)), first);
+    search.note(
+        unmet(Some(Need::Int), primary_kind(variables, primary)),
+        first,
+    );
 }
 
 #[cycle(walks)]

@@ -53,6 +53,7 @@ impl Fault {
     pub fn is_before(self, other: Fault) -> bool
         ensures { result ≡ is_before self other }
     {
-        self.token < other.token || (self.token == other.token && self.rule.number() < other.rule.number())
+        self.token < other.token
+            || (self.token == other.token && self.rule.number() < other.rule.number())
     }
 }

@@ -21,13 +21,7 @@ pub fn element(kind: Option<Kind>, is_cells: bool) -> Option<Kind>
     match kind {
         Some(Kind::Int | Kind::Handle { .. }) => None,
         Some(Kind::Array { depth, .. }) => Some(plain(depth)),
-        None => {
-            if is_cells {
-                Some(Kind::Int)
-            } else {
-                None
-            }
-        }
+        None => { if is_cells { Some(Kind::Int) } else { None } }
     }
 }
 
@@ -47,7 +41,6 @@ fn element_rule(kind: Option<Kind>, is_cells: bool) -> Option<Rule>
         }
     }
 }
-
 
 /// Notes what is wrong with the word before `[` at the next token.
 pub fn note_element(search: &mut Search, items: &[Item], variables: &[Variable], word: &[u8])
@@ -96,7 +89,13 @@ fn walk_args(search: &mut Search, variables: &[Variable], parameters: &[Param], 
 
 /// Goes over a called word and its arguments in brackets.
 #[tactic(auto, using(crate::proofs::Least::least_append))]
-pub fn walk_call(search: &mut Search, items: &[Item], variables: &[Variable], word: &[u8], args: &[Expr])
+pub fn walk_call(
+    search: &mut Search,
+    items: &[Item],
+    variables: &[Variable],
+    word: &[u8],
+    args: &[Expr],
+)
     requires { search.old.at + call_width (args_tree args.now) ≤ search.old.end }
     ensures { Walked search.old search.new (call_width (args_tree args.now)) (spec.call_faults (items_tree items.now) variables.now search.old.at word.now (args_tree args.now)) }
 {
@@ -203,7 +202,13 @@ fn walk_inside(search: &mut Search, items: &[Item], variables: &[Variable], init
 
 /// Goes over what a variable is set to, in a place with a need.
 #[tactic(auto, using(crate::proofs::Least::least_append, crate::proofs::Some::init_some))]
-pub fn walk_init(search: &mut Search, items: &[Item], variables: &[Variable], need: Option<Need>, init: &Init)
+pub fn walk_init(
+    search: &mut Search,
+    items: &[Item],
+    variables: &[Variable],
+    need: Option<Need>,
+    init: &Init,
+)
     requires { search.old.at + init_width (init_tree init.now) ≤ search.old.end }
     ensures { Walked search.old search.new (init_width (init_tree init.now)) (spec.init_faults (items_tree items.now) variables.now search.old.at need (init_tree init.now)) }
 {

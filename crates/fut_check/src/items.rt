@@ -58,7 +58,13 @@ fn walk_param(search: &mut Search, items: &[Item], scope: &Scope, param: &Param)
     requires { search.old.at + param_width (param_tree param.now) ≤ search.old.end }
     ensures { Walked search.old search.new (param_width (param_tree param.now)) (spec.param_faults (items_tree items.now) scope.now.declared search.old.at (param_tree param.now)) }
 {
-    note_param(search, items, scope, param.name.as_slice(), kind_of(&param.kind));
+    note_param(
+        search,
+        items,
+        scope,
+        param.name.as_slice(),
+        kind_of(&param.kind),
+    );
     search.skip(2);
     walk_type(search, &param.kind);
     search.skip(1);
@@ -72,7 +78,13 @@ fn declare_param(alloc: Global, scope: &mut Scope, param: &Param) -> Result<(), 
 }
 
 /// Goes over parameters, each with a comma or the closing bracket behind it.
-fn walk_each_param(alloc: Global, search: &mut Search, items: &[Item], scope: &mut Scope, params: &[Param]) -> Result<(), NoMemory>
+fn walk_each_param(
+    alloc: Global,
+    search: &mut Search,
+    items: &[Item],
+    scope: &mut Scope,
+    params: &[Param],
+) -> Result<(), NoMemory>
     requires { search.old.at + each_param_width (params_tree params.now) ≤ search.old.end }
     ensures { IfOk result (λ _. Passed search.old search.new (each_param_width (params_tree params.now)) (spec.params_faults (items_tree items.now) scope.old.declared search.old.at (params_tree params.now)) scope.new (spec.with_params scope.old (params_tree params.now))) }
 {
@@ -84,7 +96,13 @@ fn walk_each_param(alloc: Global, search: &mut Search, items: &[Item], scope: &m
 }
 
 /// Goes over parameters and the closing bracket.
-fn walk_params(alloc: Global, search: &mut Search, items: &[Item], scope: &mut Scope, params: &[Param]) -> Result<(), NoMemory>
+fn walk_params(
+    alloc: Global,
+    search: &mut Search,
+    items: &[Item],
+    scope: &mut Scope,
+    params: &[Param],
+) -> Result<(), NoMemory>
     requires { search.old.at + params_width (params_tree params.now) ≤ search.old.end }
     ensures { IfOk result (λ _. Passed search.old search.new (params_width (params_tree params.now)) (spec.params_faults (items_tree items.now) scope.old.declared search.old.at (params_tree params.now)) scope.new (spec.with_params scope.old (params_tree params.now))) }
 {
@@ -131,7 +149,13 @@ fn lacks_return(depth: u64, body: &[Stmt]) -> bool
 }
 
 /// Goes over a task's body and its closing bracket.
-fn walk_body(alloc: Global, search: &mut Search, items: &[Item], scope: &mut Scope, body: &[Stmt]) -> Result<(), NoMemory>
+fn walk_body(
+    alloc: Global,
+    search: &mut Search,
+    items: &[Item],
+    scope: &mut Scope,
+    body: &[Stmt],
+) -> Result<(), NoMemory>
     requires { search.old.at + block_width (block_tree body.now) + 1 ≤ search.old.end }
     ensures { IfOk result (λ _. Walked search.old search.new (block_width (block_tree body.now) + 1) (spec.body_faults (items_tree items.now) scope.old search.old.at (block_tree body.now))) }
 {
@@ -242,7 +266,14 @@ fn walk_task(
 
 /// Goes over an array of cells behind other items, which have so many cells, or more than all numbers go to.
 #[tactic(auto, using(crate::proofs::Least::least_append))]
-fn walk_cells(search: &mut Search, items: &[Item], before: &[Item], cells: u64, word: &[u8], length: u64)
+fn walk_cells(
+    search: &mut Search,
+    items: &[Item],
+    before: &[Item],
+    cells: u64,
+    word: &[u8],
+    length: u64,
+)
     requires room { search.old.at + 6 ≤ search.old.end }
     requires cells { cells ≡ min (names.cells (items_tree before.now)) (2 ^ 64 - 1) }
     ensures { Walked search.old search.new 6 (spec.item_faults (items_tree items.now) (items_tree before.now) search.old.at (trees.CellsOf word.now length)) }
@@ -285,14 +316,28 @@ fn count(counts: Counts, item: &Item) -> Counts
 }
 
 /// Goes over an item behind others.
-fn walk_item(alloc: Global, search: &mut Search, items: &[Item], before: &[Item], counts: Counts, item: &Item) -> Result<(), NoMemory>
+fn walk_item(
+    alloc: Global,
+    search: &mut Search,
+    items: &[Item],
+    before: &[Item],
+    counts: Counts,
+    item: &Item,
+) -> Result<(), NoMemory>
     requires room { search.old.at + item_width (item_tree item.now) ≤ search.old.end }
     requires counts { AreCounts (items_tree before.now) counts }
     ensures { IfOk result (λ _. Walked search.old search.new (item_width (item_tree item.now)) (spec.item_faults (items_tree items.now) (items_tree before.now) search.old.at (item_tree item.now))) }
 {
     match item {
         Item::Cells(word, length) => {
-            walk_cells(search, items, before, counts.cells, word.as_slice(), *length);
+            walk_cells(
+                search,
+                items,
+                before,
+                counts.cells,
+                word.as_slice(),
+                *length,
+            );
             Ok(())
         }
         Item::Task(word, params, depth, body) => walk_task(

@@ -124,7 +124,13 @@ impl Need {
             (Need::AnyHandle, Kind::Array { .. }) => Some(Rule::ArrayLength),
             (Need::Array { .. }, Kind::Int) => Some(Rule::IntForHandle),
             (Need::Array { .. }, Kind::Handle { .. }) => Some(Rule::ArrayLength),
-            (Need::Array { depth, length }, Kind::Array { depth: d, length: n }) => {
+            (
+                Need::Array { depth, length },
+                Kind::Array {
+                    depth: d,
+                    length: n,
+                },
+            ) => {
                 if depth == d {
                     broken_unless(length == n, Rule::ArrayLength)
                 } else {

@@ -11,11 +11,14 @@ pub mod fault;
 mod inits;
 mod items;
 mod kind;
+pub mod laws;
 mod names;
 mod program;
 mod scope;
 mod search;
 mod stmts;
+#[cfg(test)]
+mod tests;
 
 pub use checked::Checked;
 pub use program::{CheckFault, check};

@@ -93,7 +93,14 @@ fn walk_declare(search: &mut Search, items: &[Item], scope: &Scope, word: &[u8],
 
 /// Goes over a declaration with a value.
 #[tactic(auto, using(crate::proofs::Least::least_append))]
-fn walk_define(search: &mut Search, items: &[Item], scope: &Scope, word: &[u8], written: &VarType, value: &Init)
+fn walk_define(
+    search: &mut Search,
+    items: &[Item],
+    scope: &Scope,
+    word: &[u8],
+    written: &VarType,
+    value: &Init,
+)
     requires { search.old.at + stmt_width (trees.Define word.now (type_tree written.now) (init_tree value.now)) ≤ search.old.end }
     ensures { Walked search.old search.new (stmt_width (trees.Define word.now (type_tree written.now) (init_tree value.now))) (spec.stmt_faults (items_tree items.now) scope.now search.old.at (trees.Define word.now (type_tree written.now) (init_tree value.now))) }
 {
@@ -103,7 +110,13 @@ fn walk_define(search: &mut Search, items: &[Item], scope: &Scope, word: &[u8], 
     search.skip(2);
     walk_type(search, written);
     search.skip(1);
-    walk_init(search, items, scope.visible(), Some(kind.init_need()), value);
+    walk_init(
+        search,
+        items,
+        scope.visible(),
+        Some(kind.init_need()),
+        value,
+    );
     search.skip(1);
 }
 
@@ -115,13 +128,26 @@ fn walk_assign(search: &mut Search, items: &[Item], scope: &Scope, word: &[u8], 
 {
     note_assigned(search, scope, word);
     search.skip(2);
-    walk_init(search, items, scope.visible(), variable_need(scope, word), value);
+    walk_init(
+        search,
+        items,
+        scope.visible(),
+        variable_need(scope, word),
+        value,
+    );
     search.skip(1);
 }
 
 /// Goes over an assignment of an element or a cell.
 #[tactic(auto, using(crate::proofs::Least::least_append))]
-fn walk_store(search: &mut Search, items: &[Item], scope: &Scope, word: &[u8], index: &Expr, value: &Expr)
+fn walk_store(
+    search: &mut Search,
+    items: &[Item],
+    scope: &Scope,
+    word: &[u8],
+    index: &Expr,
+    value: &Expr,
+)
     requires { search.old.at + stmt_width (trees.Store word.now (expr_tree index.now) (expr_tree value.now)) ≤ search.old.end }
     ensures { Walked search.old search.new (stmt_width (trees.Store word.now (expr_tree index.now) (expr_tree value.now))) (spec.stmt_faults (items_tree items.now) scope.now search.old.at (trees.Store word.now (expr_tree index.now) (expr_tree value.now))) }
 {
@@ -129,7 +155,12 @@ fn walk_store(search: &mut Search, items: &[Item], scope: &Scope, word: &[u8], i
     search.skip(2);
     walk_needed(search, scope.visible(), Some(Need::Int), index);
     search.skip(2);
-    walk_needed(search, scope.visible(), element_need(items, scope, word), value);
+    walk_needed(
+        search,
+        scope.visible(),
+        element_need(items, scope, word),
+        value,
+    );
     search.skip(1);
 }
 
@@ -164,13 +195,22 @@ fn walk_return(search: &mut Search, items: &[Item], scope: &Scope, value: &Expr)
     search.skip(1);
     let first = search.at();
     walk_expr(search, scope.visible(), value);
-    search.note(result_rule(scope.returns(), expr_kind(scope.visible(), value)), first);
+    search.note(
+        result_rule(scope.returns(), expr_kind(scope.visible(), value)),
+        first,
+    );
     search.skip(1);
 }
 
 /// Goes over a statement.
 #[cycle(stmts)]
-fn walk_stmt(alloc: Global, search: &mut Search, items: &[Item], scope: &mut Scope, stmt: &Stmt) -> Result<(), NoMemory>
+fn walk_stmt(
+    alloc: Global,
+    search: &mut Search,
+    items: &[Item],
+    scope: &mut Scope,
+    stmt: &Stmt,
+) -> Result<(), NoMemory>
     requires { search.old.at + stmt_width (stmt_tree stmt.now) ≤ search.old.end }
     ensures { IfOk result (λ _. Passed search.old search.new (stmt_width (stmt_tree stmt.now)) (spec.stmt_faults (items_tree items.now) scope.old search.old.at (stmt_tree stmt.now)) scope.new (spec.scope_after scope.old (stmt_tree stmt.now))) }
 {
@@ -221,7 +261,13 @@ fn walk_stmt(alloc: Global, search: &mut Search, items: &[Item], scope: &mut Sco
 
 /// Goes over the other branch of an `if`.
 #[cycle(stmts)]
-fn walk_tail(alloc: Global, search: &mut Search, items: &[Item], scope: &mut Scope, tail: &Tail) -> Result<(), NoMemory>
+fn walk_tail(
+    alloc: Global,
+    search: &mut Search,
+    items: &[Item],
+    scope: &mut Scope,
+    tail: &Tail,
+) -> Result<(), NoMemory>
     requires { search.old.at + tail_width (tail_tree tail.now) ≤ search.old.end }
     ensures { IfOk result (λ _. Passed search.old search.new (tail_width (tail_tree tail.now)) (spec.tail_faults (items_tree items.now) scope.old search.old.at (tail_tree tail.now)) scope.new (spec.with_declared scope.old (spec.declared_in_tail (tail_tree tail.now)))) }
 {
@@ -238,7 +284,13 @@ fn walk_tail(alloc: Global, search: &mut Search, items: &[Item], scope: &mut Sco
 
 /// Goes over the statements of a block.
 #[cycle(stmts)]
-pub fn walk_block(alloc: Global, search: &mut Search, items: &[Item], scope: &mut Scope, stmts: &[Stmt]) -> Result<(), NoMemory>
+pub fn walk_block(
+    alloc: Global,
+    search: &mut Search,
+    items: &[Item],
+    scope: &mut Scope,
+    stmts: &[Stmt],
+) -> Result<(), NoMemory>
     requires { search.old.at + block_width (block_tree stmts.now) ≤ search.old.end }
     ensures { IfOk result (λ _. Passed search.old search.new (block_width (block_tree stmts.now)) (spec.block_faults (items_tree items.now) scope.old search.old.at (block_tree stmts.now)) scope.new (spec.with_declared scope.old (spec.declared_in_block (block_tree stmts.now)))) }
 {

@@ -9,5 +9,5 @@ use Rattle.fut_check.proofs.exprs.+walks.Goals as goal
 pub walk_primary-walk_expr-requires : goal.walk_primary-walk_expr-requires
 walk_primary-walk_expr-requires t c =
     let width : primary_width (primary_tree c.args.primary.now) ≡ 1 + expr_width (expr_tree c.get.result.now) + 1 =
-        ap (λ p. primary_width (primary_tree p)) (c.in-Bracket.is ∙ ap Bracket (sym c.get.ensures)) ∙ ap primary_width (bracket_tree c.get.result.now)
+    ap (λ p. primary_width (primary_tree p)) (c.in-Bracket.is ∙ ap Bracket (sym c.get.ensures)) ∙ ap primary_width (bracket_tree c.get.result.now)
     in (search (rules, the_lemmas), omega (arith, width))

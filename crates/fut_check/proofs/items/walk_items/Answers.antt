@@ -18,10 +18,10 @@ loop-place-preserved c =
     let x = item_tree c.index-items-place.result in
     let before = items_tree (take i xs) in
     let left : items_tree (drop i c.args.items.now) ≡ item_tree c.index-items-place.result ∷ items_tree (drop (i + 1) c.args.items.now) =
-        ap items_tree (dropped xs i c.index-items-place.result (omega arith) c.index-items-place.is)
+    ap items_tree (dropped xs i c.index-items-place.result (omega arith) c.index-items-place.is)
     in
     let done : items_tree (take (i + 1) c.args.items.now) ≡ items_tree (take i c.args.items.now) ++ item_tree c.index-items-place.result ∷ [] =
-        items_taken xs i c.index-items-place.result (omega arith) c.index-items-place.is
+    items_taken xs i c.index-items-place.result (omega arith) c.index-items-place.is
     in
     let walked = c.in_ok-walk_item.ensures in
     let counts : AreCounts (items_tree (take i c.args.items.now) ++ item_tree c.index-items-place.result ∷ []) c.count-counts.result = c.count-counts.ensures before c.loop-place.invariant.counts in
