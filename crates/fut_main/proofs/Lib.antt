@@ -4,6 +4,5 @@ pub mod Endings
 pub mod Feeding
 pub mod Lines
 pub mod PieceLemmas
-pub mod Placed
 pub mod Serially
 pub mod Steps

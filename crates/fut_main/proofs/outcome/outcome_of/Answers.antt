@@ -1,6 +1,7 @@
+use Rattle.std.proofs.Common.{arith}
 use Rattle.fut_base.specs.Events.{events_of}
+use Rattle.fut_check.proofs.Reading.{read_can_be_checked}
 use Rattle.fut_main.proofs.Endings.{outcome}
-use Rattle.fut_main.proofs.Placed.{has_places}
 use Rattle.fut_main.proofs.outcome.outcome_of.Goals as goal
 
 pub returns-in-Ok : goal.returns-in-Ok
@@ -9,4 +10,4 @@ returns-in-Ok c =
     outcome c.args.command c.args.text.now c.in-Ok.program o.status (events_of o.history) o.races.items o.printed.items c.in-Ok.ensures c.outcome_of_program.ensures
 
 pub outcome_of_program-requires : goal.outcome_of_program-requires
-outcome_of_program-requires c = has_places c.args.text.now c.in-Ok.program c.requires c.in-Ok.ensures
+outcome_of_program-requires c = read_can_be_checked c.args.text.now c.in-Ok.program (omega (arith, c.requires)) c.in-Ok.ensures
