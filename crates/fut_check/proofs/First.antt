@@ -11,7 +11,7 @@ tested : (b : Bool) → (b ≡ true) ⊎ (b ≡ false)
 tested true = inl refl
 tested false = inr refl
 
-small : (r : Rule) → rule_number r ≤ 12
+pub small : (r : Rule) → rule_number r ≤ 12
 small rule.UnknownName = omega arith
 small rule.DoubledName = omega arith
 small rule.ArgumentCount = omega arith
@@ -26,7 +26,7 @@ small rule.NoValue = omega arith
 small rule.ConstantLimit = omega arith
 
 -- a number by which faults are ordered
-abbrev rank : Fault → ℕ
+abbrev pub rank : Fault → ℕ
 rank f = f.token * 13 + rule_number f.rule
 
 ranked : (a b r s : ℕ) (x y z : Bool) → nat_lt a b ≡ x → nat_eq a b ≡ y → nat_lt r s ≡ z → r ≤ 12 → s ≤ 12 → (x || (y && z)) ≡ true → a * 13 + r < b * 13 + s
@@ -44,7 +44,7 @@ unranked a b r s false false z p q t rs ss h = let ne : a ≢ b = eqb-false a b 
 before : (f g : Fault) → is_before f g ≡ true → rank f < rank g
 before f g h = ranked f.token g.token (rule_number f.rule) (rule_number g.rule) _ _ _ refl refl refl (small f.rule) (small g.rule) h
 
-not_before : (f g : Fault) → is_before f g ≡ false → rank g ≤ rank f
+pub not_before : (f g : Fault) → is_before f g ≡ false → rank g ≤ rank f
 not_before f g h = unranked f.token g.token (rule_number f.rule) (rule_number g.rule) _ _ _ refl refl refl (small f.rule) (small g.rule) h
 
 in_order : (f g : Fault) → rank f ≤ rank g → is_before g f ≡ false

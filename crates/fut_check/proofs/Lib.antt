@@ -5,6 +5,7 @@ pub mod Counts
 pub mod Drops
 pub mod First
 pub mod Least
+pub mod Once
 pub mod Reading
 pub mod Slots
 pub mod Some

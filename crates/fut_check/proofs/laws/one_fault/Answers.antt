@@ -1,0 +1,5 @@
+use Rattle.fut_check.proofs.Once as once
+use Rattle.fut_check.proofs.laws.one_fault.Goals as goal
+
+pub returns : goal.returns
+returns c = once.one_fault
