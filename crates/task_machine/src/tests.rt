@@ -45,6 +45,7 @@ fn program(alloc: Global) -> Result<Program, AllocError> {
     Ok(Program {
         items: Items::from_vec(items),
         places: Items::from_vec(places),
+        comments: false,
     })
 }
 
@@ -66,6 +67,7 @@ fn without_main(alloc: Global) -> Result<Program, AllocError> {
     Ok(Program {
         items: Items::from_vec(items),
         places: Items::from_vec(places),
+        comments: false,
     })
 }
 
