@@ -1,0 +1,37 @@
+//! Laws of tasks of a well-typed program.
+ghost use Rattle.task_types.specs.Laws.{StartIsTyped, StepsStayTyped, EffectStaysTyped, TypedHasWish, WishedArgsFit, WishedEndFits, WishedGetFits};
+
+/// A task whose arguments fit begins with the types kept.
+pub fn start_is_typed()
+    ensures { StartIsTyped }
+{}
+
+/// Local steps keep the types.
+pub fn steps_stay_typed()
+    ensures { StepsStayTyped }
+{}
+
+/// Each action but the end keeps the types, where what it gives the task fits.
+pub fn effect_stays_typed()
+    ensures { EffectStaysTyped }
+{}
+
+/// A task that stands at an event has a wish.
+pub fn typed_has_wish()
+    ensures { TypedHasWish }
+{}
+
+/// The arguments of a task that is to begin fit its parameters.
+pub fn wished_args_fit()
+    ensures { WishedArgsFit }
+{}
+
+/// The value with which a task ends fits its result.
+pub fn wished_end_fits()
+    ensures { WishedEndFits }
+{}
+
+/// A future that is to be got gives what the handle's type says.
+pub fn wished_get_fits()
+    ensures { WishedGetFits }
+{}
