@@ -55,11 +55,9 @@ HasKind gives (kind.Handle d) (Many _) = ⊥
 HasKind gives (kind.Array d n) (One _) = ⊥
 HasKind gives (kind.Array d n) (Many vs) = (length vs ≡ n) × AllFit gives d vs
 
--- argument values for parameters, an array as its elements
-abbrev pub ParamsFit : (ℕ → ℕ → Bool) → List tree.Param → List Value → Type 0
-ParamsFit gives [] vs = vs ≡ []
-ParamsFit gives (p ∷ ps) vs =
-    (own : List Value) × (rest : List Value) × (vs ≡ own ++ rest) × HasKind gives (kind_of p.type) (slot_of (kind_of p.type) own) × (length own ≡ size (kind_of p.type)) × ParamsFit gives ps rest
+abbrev pub one_of : List Value → Slot
+one_of [] = Many []
+one_of (v ∷ vs) = One v
 
 -- the values of one variable of this type
 abbrev pub slot_of : Kind → List Value → Slot
@@ -67,9 +65,11 @@ slot_of kind.Int vs = one_of vs
 slot_of (kind.Handle d) vs = one_of vs
 slot_of (kind.Array d n) vs = Many vs
 
-abbrev pub one_of : List Value → Slot
-one_of [] = Many []
-one_of (v ∷ vs) = One v
+-- argument values for parameters, an array as its elements
+abbrev pub ParamsFit : (ℕ → ℕ → Bool) → List tree.Param → List Value → Type 0
+ParamsFit gives [] vs = vs ≡ []
+ParamsFit gives (p ∷ ps) vs =
+    (own : List Value) × (rest : List Value) × (vs ≡ own ++ rest) × HasKind gives (kind_of p.type) (slot_of (kind_of p.type) own) × (length own ≡ size (kind_of p.type)) × ParamsFit gives ps rest
 
 -- the arguments fit the parameters of the task of a program at this place
 abbrev pub ArgsFit : (ℕ → ℕ → Bool) → tree.Program → ℕ → List Value → Type 0
