@@ -41,6 +41,10 @@ pub nil_right : {X : Type 0} (xs ys : List X) → xs ++ ys ≡ [] → ys ≡ []
 nil_right [] ys h = h
 nil_right (x ∷ xs) ys h = absurd (let e : x ∷ (xs ++ ys) ≡ [] = h in cc)
 
+-- three lists without items
+pub nil_three : {X : Type 0} (xs ys zs : List X) → xs ++ ys ++ zs ≡ [] → (xs ≡ []) × (ys ≡ []) × (zs ≡ [])
+nil_three xs ys zs h = (nil_left xs ys (nil_left (xs ++ ys) zs h), nil_right xs ys (nil_left (xs ++ ys) zs h), nil_right (xs ++ ys) zs h)
+
 pub among_split : {X : Type 0} (x : X) (xs ys : List X) → Among x (xs ++ ys) → Among x xs ⊎ Among x ys
 among_split x [] ys a = inr a
 among_split x (z ∷ zs) ys (inl e) = inl (inl e)
