@@ -1,6 +1,5 @@
-use Rattle.task_types.proofs.Given.{expr_meets}
-use Rattle.task_types.proofs.Texts.{good_text}
+use Rattle.task_types.proofs.Wishes.{typed_has_wish}
 use Rattle.task_types.proofs.laws.typed_has_wish.Goals as goal
 
 pub returns : goal.returns
-returns c = ?
+returns c = typed_has_wish
