@@ -1,6 +1,6 @@
 -- Calls of a well-typed program: the called task is there, and the arguments fit.
 use Rattle.std.proofs.Common.{◌≡◌, ◌≢◌, ℕ, zero, suc, ◌+◌, ◌<◌, Bool, true, false, cond, List, [], ◌∷◌, ◌++◌, append-nil, length, take, drop, ◌⊎◌, inl, inr, refl, sym, ap, ◌∙◌, subst, arith, eqb-true}
-use Rattle.std.specs.Prelude.{Some, None, Option, ℤ, pos, slice_get, slice_index_or, flat_map, bytes_eq, nat_eq}
+use Rattle.std.specs.Prelude.{Some, None, Option, ℤ, pos, slice_get, slice_index_or, bytes_eq, nat_eq}
 use Rattle.std.proofs.Math.Seq.{take-append_seam, drop-append_seam}
 use Rattle.fut_base.specs.declared.record.Value.{Value}
 use Rattle.fut_base.specs.declared.record.Value.TheVariants.{Int}
@@ -11,21 +11,20 @@ use Rattle.fut_check.specs.declared.kind.Kind.TheVariants as kind
 use Rattle.fut_check.specs.declared.fault.Rule.TheVariants as rule
 use Rattle.fut_check.specs.declared.names.Variable.{Variable}
 use Rattle.fut_check.specs.Faults.{broken}
-use Rattle.fut_check.specs.Kinds.{kind_of, plain, size, argument_need}
-use Rattle.fut_check.specs.Names.{Signature, declares, declaration, means_cells, means_task, item_name}
+use Rattle.fut_check.specs.Kinds.{kind_of, size, argument_need}
+use Rattle.fut_check.specs.Names.{Signature, declares, declaration, means_cells, means_task}
 use Rattle.fut_check.specs.Exprs.{needed_faults}
-use Rattle.fut_check.specs.Inits.{call_rule, tested_params, next_need, later, args_faults, call_faults}
+use Rattle.fut_check.specs.Inits.{call_rule, tested_params, args_faults, call_faults}
 use Rattle.fut_check.specs.Widths.{expr_width}
 use Rattle.fut_check.specs.Items.{items_of, param_variable, param_variables, IsWellTyped}
 use Rattle.task_machine.specs.Values.{index_of}
 use Rattle.task_machine.specs.Variables.{Slot, One, Many, Variables, slot_at, values_of, slot_in, values_in, size_of, taken, bound}
-use Rattle.task_machine.specs.Texts.{CellArray, TaskText, arrays_from, tasks_from, task_at, task_number, number_from, find_task, find_cell, cell_at, stmts_of}
+use Rattle.task_machine.specs.Texts.{TaskText, arrays_from, tasks_from, task_number, number_from, find_cell, stmts_of}
 use Rattle.task_machine.specs.State.{TaskState, start_state, started}
 use Rattle.task_types.specs.Typed.{Text, texts_from, text_at, variables_of, HasKind, ParamsFit, ArgsFit, one_of, slot_of, AllAmong, IsTypedState}
 use Rattle.task_types.proofs.Slots.{by_bool, not_both, some_one, no_some, nil_left, nil_right, among_left, unbroken, same_word, word_is, cond_true, cond_false}
-use Rattle.task_types.proofs.Given.{Holds, argument_has, Meets, expr_meets}
-use Rattle.task_types.proofs.Texts.{AreApart, IsGoodText, good_text}
-use Rattle.task_types.proofs.States.{Keeps}
+use Rattle.task_types.proofs.Given.{Holds, argument_has, expr_meets}
+use Rattle.task_types.proofs.Texts.{good_text}
 use Rattle.task_types.proofs.Stepping.{made}
 
 -- ---- what a name means
@@ -59,25 +58,25 @@ task_found (tree.CellsOf name m ∷ rest) n w s h =
 task_found (tree.TaskOf name ps d b ∷ rest) n w s h =
     by_bool (λ c. bytes_eq name w ≡ c → means_task (cond c (Some (tree.TaskOf name ps d b)) (declaration rest w)) ≡ Some s → TaskFound (tree.TaskOf name ps d b ∷ rest) n w s) (bytes_eq name w)
     (λ t. λ i e. (
-      let same : record { params = ps; result = d } ≡ s = some_one _ s e in
-      record {
-        place = 0;
-        number = cond_true (bytes_eq name w) (Some n) (number_from (n + 1) (tasks_from rest) w) i ∙ ap Some (let q : n ≡ n + 0 = omega arith in q);
-        text = record { params = ps; depth = d; body = b };
-        is = refl;
-        params = ap (λ (x : Signature). x.params) same;
-        depth = ap (λ (x : Signature). x.result) same;
-      }))
+    let same : record { params = ps; result = d } ≡ s = some_one _ s e in
+    record {
+      place = 0;
+      number = cond_true (bytes_eq name w) (Some n) (number_from (n + 1) (tasks_from rest) w) i ∙ ap Some (let q : n ≡ n + 0 = omega arith in q);
+      text = record { params = ps; depth = d; body = b };
+      is = refl;
+      params = ap (λ (x : Signature). x.params) same;
+      depth = ap (λ (x : Signature). x.result) same;
+    }))
     (λ f. λ i e. (
-      let r = task_found rest (n + 1) w s e in
-      record {
-        place = suc r.place;
-        number = cond_false (bytes_eq name w) (Some n) (number_from (n + 1) (tasks_from rest) w) i ∙ r.number ∙ ap Some (let q : n + 1 + r.place ≡ n + suc r.place = omega arith in q);
-        text = r.text;
-        is = r.is;
-        params = r.params;
-        depth = r.depth;
-      }))
+    let r = task_found rest (n + 1) w s e in
+    record {
+      place = suc r.place;
+      number = cond_false (bytes_eq name w) (Some n) (number_from (n + 1) (tasks_from rest) w) i ∙ r.number ∙ ap Some (let q : n + 1 + r.place ≡ n + suc r.place = omega arith in q);
+      text = r.text;
+      is = r.is;
+      params = r.params;
+      depth = r.depth;
+    }))
     refl h
 
 -- ---- arguments
@@ -99,8 +98,7 @@ args_fit gives vis vars n (p ∷ ps) (e ∷ es) h l f =
     let rest = nil_right (needed_faults vis n (Some (argument_need (kind_of p.type))) e) (args_faults vis (n + expr_width e + 1) ps es) f in
     let m = expr_meets gives vis vars n (argument_need (kind_of p.type)) e h own in
     let has = argument_has gives (kind_of p.type) m.kind (slot_in vars e) m.rule m.has in
-    let back = slot_back gives (kind_of p.type) (slot_in vars e) has in
-    (
+    let back = slot_back gives (kind_of p.type) (slot_in vars e) has in (
       values_of (slot_in vars e),
       values_in vars es,
       refl,
@@ -137,8 +135,8 @@ called gives P vis vars n w es h f =
     let k = call_known o (length es) n (nil_left (broken (call_rule o (length es)) n) (args_faults vis (n + 2) (tested_params o (length es)) es) f) in
     let r = task_found (items_of P) 0 w k.0 k.1 in
     let clean : args_faults vis (n + 2) k.0.params es ≡ [] =
-        subst (λ ps. args_faults vis (n + 2) ps es ≡ []) (ap (λ x. tested_params x (length es)) k.1 ∙ tested k.0 (length es) k.2)
-        (nil_right (broken (call_rule o (length es)) n) (args_faults vis (n + 2) (tested_params o (length es)) es) f)
+    subst (λ ps. args_faults vis (n + 2) ps es ≡ []) (ap (λ x. tested_params x (length es)) k.1 ∙ tested k.0 (length es) k.2)
+    (nil_right (broken (call_rule o (length es)) n) (args_faults vis (n + 2) (tested_params o (length es)) es) f)
     in
     record {
       code = r.place;
@@ -174,13 +172,13 @@ pub bound_holds : (gives : ℕ → ℕ → Bool) (all : List Variable) (ps : Lis
 bound_holds gives all [] args one a fit x i = absurd i
 bound_holds gives all (p ∷ ps) args one a (own, rest, split, has, count, more) x i =
     let own_has : HasKind gives (kind_of p.type) (taken p.type args) =
-        subst (λ vs. HasKind gives (kind_of p.type) (taken p.type vs)) (sym split) (subst (HasKind gives (kind_of p.type)) (taken_is p.type own rest count) has)
+    subst (λ vs. HasKind gives (kind_of p.type) (taken p.type vs)) (sym split) (subst (HasKind gives (kind_of p.type)) (taken_is p.type own rest count) has)
     in
     let left : bound ps (drop (size_of p.type) args) ≡ bound ps rest = ap (bound ps) (ap (drop (size_of p.type)) split ∙ left_is p.type own rest count) in
     by_bool (λ b. bytes_eq p.name x.name ≡ b → HasKind gives x.kind (cond b (taken p.type args) (slot_at (bound ps (drop (size_of p.type) args)) x.name))) (bytes_eq p.name x.name)
     (λ t. λ e. (
-      let same : param_variable p ≡ x = one (param_variable p) x (a (param_variable p) (inl refl)) (a x i) (word_is p.name x.name t) in
-      subst (λ (q : Variable). HasKind gives q.kind (taken p.type args)) same own_has))
+    let same : param_variable p ≡ x = one (param_variable p) x (a (param_variable p) (inl refl)) (a x i) (word_is p.name x.name t) in
+    subst (λ (q : Variable). HasKind gives q.kind (taken p.type args)) same own_has))
     (λ f. λ e. elim i [
       | inl same ↦ absurd (not_both (bytes_eq p.name x.name) (same_word p.name x.name (ap (λ (q : Variable). q.name) same)) f)
       | inr j ↦ subst (λ vs. HasKind gives x.kind (slot_at vs x.name)) (sym left) (bound_holds gives all ps rest one (λ y k. a y (inr k)) more x j)
@@ -209,13 +207,13 @@ start_typed gives P which args w (t, is, fit) =
     let x = text_task (items_of P) which t is in
     let begun : TaskState = record { vars = bound t.params args; todo = stmts_of t.body; is_open = false } in
     let same : begun ≡ start_state P which args =
-        ap (λ (ps : List tree.Param). record { vars = bound ps args; todo = stmts_of t.body; is_open = false }) (sym x.2) ∙ ap (λ (b : tree.Block). record { vars = bound x.0.params args; todo = stmts_of b; is_open = false }) (sym x.3) ∙ ap (λ o. started o args) (sym x.1)
+    ap (λ (ps : List tree.Param). record { vars = bound ps args; todo = stmts_of t.body; is_open = false }) (sym x.2) ∙ ap (λ (b : tree.Block). record { vars = bound x.0.params args; todo = stmts_of b; is_open = false }) (sym x.3) ∙ ap (λ o. started o args) (sym x.1)
     in
     subst (IsTypedState gives P which) same
     (made gives P which t (param_variables t.params) begun is
-      (record {
-        declared = λ y i. among_left y (param_variables t.params) (Rattle.fut_check.specs.Stmts.declared_in_block t.body) i;
-        holds = bound_holds gives (variables_of t) t.params args good.apart.one (λ y i. among_left y (param_variables t.params) (Rattle.fut_check.specs.Stmts.declared_in_block t.body) i) fit;
-        globals_are = λ n d. bound_globals (items_of P) t.params args n (λ y i. good.apart.local y (among_left y (param_variables t.params) (Rattle.fut_check.specs.Stmts.declared_in_block t.body) i)) d;
-      })
-      good.starts good.returns)
+    (record {
+      declared = λ y i. among_left y (param_variables t.params) (Rattle.fut_check.specs.Stmts.declared_in_block t.body) i;
+      holds = bound_holds gives (variables_of t) t.params args good.apart.one (λ y i. among_left y (param_variables t.params) (Rattle.fut_check.specs.Stmts.declared_in_block t.body) i) fit;
+      globals_are = λ n d. bound_globals (items_of P) t.params args n (λ y i. good.apart.local y (among_left y (param_variables t.params) (Rattle.fut_check.specs.Stmts.declared_in_block t.body) i)) d;
+    })
+    good.starts good.returns)

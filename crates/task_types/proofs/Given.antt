@@ -1,9 +1,8 @@
 -- What an expression gives has its type.
-use Rattle.std.proofs.Common.{◌≡◌, ℕ, zero, suc, ◌+◌, Bool, true, false, cond, List, [], ◌∷◌, ◌++◌, length, ◌⊎◌, inl, inr, refl, sym, ap, ◌∙◌, subst, arith, eqb-true}
-use Rattle.std.specs.Prelude.{Some, None, Option, pos, replicate, bytes_eq, nat_eq}
+use Rattle.std.proofs.Common.{◌≡◌, ℕ, zero, suc, ◌+◌, Bool, cond, List, [], ◌∷◌, inl, inr, refl, sym, subst, eqb-true}
+use Rattle.std.specs.Prelude.{Some, None, Option, bytes_eq, nat_eq}
 use Rattle.std.proofs.lemmas.List.{length-replicate}
 use Rattle.fut_base.specs.declared.record.Value.{Value}
-use Rattle.fut_base.specs.declared.record.Value.TheVariants.{Int, Fut}
 use Rattle.fut_base.specs.Dag.{Among}
 use Rattle.fut_syntax.specs.Trees as tree
 use Rattle.fut_check.specs.declared.kind.Kind.{Kind}
@@ -15,9 +14,8 @@ use Rattle.fut_check.specs.Faults.{broken}
 use Rattle.fut_check.specs.Kinds.{plain, kind_of, argument_need, init_need, need_rule, unmet}
 use Rattle.fut_check.specs.Names.{kind_named}
 use Rattle.fut_check.specs.Exprs.{expr_kind, operand_kind, primary_kind, unknown, expr_faults, operand_faults, primary_faults, needed_faults}
-use Rattle.fut_check.specs.Widths.{operand_width}
-use Rattle.task_machine.specs.Variables.{Slot, One, Many, Variables, slot_at, value_of, values_of, filled, slot_in, operand_in, primary_in}
-use Rattle.task_types.specs.Typed.{Fits, AllFit, HasKind}
+use Rattle.task_machine.specs.Variables.{Slot, One, Many, Variables, slot_at, value_of, filled, slot_in, operand_in, primary_in}
+use Rattle.task_types.specs.Typed.{Fits, HasKind}
 use Rattle.task_types.proofs.Slots.{by_bool, no_some, nil_left, nil_right, unbroken, word_is, all_replicate}
 
 -- these variables hold what their types say

@@ -1,5 +1,8 @@
 pub mod Calling
 pub mod Given
+pub mod Growing
+pub mod Mains
+pub mod Running
 pub mod Slots
 pub mod States
 pub mod Stepping

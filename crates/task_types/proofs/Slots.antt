@@ -1,12 +1,10 @@
 -- Tests, lists and variables that are set.
-use Rattle.std.proofs.Common.{◌≡◌, ℕ, zero, suc, ◌<◌, Bool, true, false, cond, List, [], ◌∷◌, ◌++◌, length, ◌⊎◌, inl, inr, refl, sym, ap, ◌∙◌, subst, arith, eqb-true}
+use Rattle.std.proofs.Common.{◌≡◌, ℕ, zero, suc, ◌<◌, Bool, true, false, cond, List, [], ◌∷◌, ◌++◌, length, ◌⊎◌, inl, inr, refl, sym, ap, ◌∙◌, subst, arith}
 use Rattle.std.specs.Prelude.{Some, None, Option, pos, replicate, slice_index_or, bytes_eq, nat_eq}
 use Rattle.std.proofs.lemmas.Slice.Eq.{bytes_eq-Decides}
-use Rattle.std.proofs.lemmas.List.{length-replicate}
 use Rattle.fut_base.specs.declared.record.Value.{Value}
 use Rattle.fut_base.specs.declared.record.Value.TheVariants.{Int}
 use Rattle.fut_base.specs.Dag.{Among}
-use Rattle.fut_check.specs.declared.fault.Fault.{Fault}
 use Rattle.fut_check.specs.declared.fault.Rule.{Rule}
 use Rattle.fut_check.specs.Faults.{broken, fault_if}
 use Rattle.task_machine.specs.Variables.{Slot, One, Variables, slot_at, put}
@@ -94,8 +92,8 @@ slot_put_other [] w s u h = cond_false (bytes_eq w u) s (One (Int (pos 0))) h
 slot_put_other (v ∷ vs) w s u h =
     by_bool (λ b. slot_at (cond b ((v.0, s) ∷ vs) (v ∷ put vs w s)) u ≡ cond (bytes_eq v.0 u) v.1 (slot_at vs u)) (bytes_eq v.0 w)
     (λ t.
-      let no : bytes_eq v.0 u ≡ false = subst (λ x. bytes_eq x u ≡ false) (sym (word_is v.0 w t)) h in
-      cond_false (bytes_eq v.0 u) s (slot_at vs u) no ∙ sym (cond_false (bytes_eq v.0 u) v.1 (slot_at vs u) no))
+    let no : bytes_eq v.0 u ≡ false = subst (λ x. bytes_eq x u ≡ false) (sym (word_is v.0 w t)) h in
+    cond_false (bytes_eq v.0 u) s (slot_at vs u) no ∙ sym (cond_false (bytes_eq v.0 u) v.1 (slot_at vs u) no))
     (λ f. ap (λ x. cond (bytes_eq v.0 u) v.1 x) (slot_put_other vs w s u h))
 
 -- ---- values that fit

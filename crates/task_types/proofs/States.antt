@@ -1,31 +1,26 @@
 -- Variables of a typed state, and what local steps make of it.
 use Rattle.std.proofs.Common.{◌≡◌, ◌≢◌, ℕ, zero, suc, ◌+◌, ◌-◌, ◌%◌, ◌<◌, Bool, true, false, cond, List, [], ◌∷◌, ◌++◌, append_assoc, append-nil, length, length-set, mod-lt, ◌⊎◌, inl, inr, refl, sym, ap, ◌∙◌, subst, arith}
-use Rattle.std.specs.Prelude.{Some, None, Option, bytes_eq, ℤ, pos, negsuc, slice_get, slice_set, slice_index_or}
+use Rattle.std.specs.Prelude.{Some, None, Option, bytes_eq, ℤ, pos, negsuc, slice_index_or}
 use Rattle.fut_base.specs.declared.record.Value.{Value}
-use Rattle.fut_base.specs.declared.record.Value.TheVariants.{Int, Fut}
+use Rattle.fut_base.specs.declared.record.Value.TheVariants.{Int}
 use Rattle.fut_base.specs.Dag.{Among}
 use Rattle.fut_syntax.specs.Trees as tree
 use Rattle.fut_check.specs.declared.kind.Kind.{Kind}
 use Rattle.fut_check.specs.declared.kind.Kind.TheVariants as kind
-use Rattle.fut_check.specs.declared.kind.Need.TheVariants as need
-use Rattle.fut_check.specs.declared.fault.Rule.TheVariants as rule
 use Rattle.fut_check.specs.declared.names.Variable.{Variable}
-use Rattle.fut_check.specs.Faults.{broken, fault_if}
-use Rattle.fut_check.specs.Kinds.{kind_of, plain, size, need_rule, init_need, unmet}
+use Rattle.fut_check.specs.Faults.{broken}
+use Rattle.fut_check.specs.Kinds.{kind_of, plain, init_need, unmet}
 use Rattle.fut_check.specs.Names.{Scope, declares, declaration, means_cells, kind_named, variable, element, element_rule}
-use Rattle.fut_check.specs.Exprs.{expr_kind, expr_faults, needed_faults, for_int}
 use Rattle.fut_check.specs.Inits.{init_kind, inner_faults, init_faults}
-use Rattle.fut_check.specs.Widths.{expr_width, type_width, block_width}
-use Rattle.fut_check.specs.Stmts.{declared_faults, type_faults, is_handle, assigned_rule, value_need, shown, declared_in, declared_in_block, declared_in_tail, stmt_faults, block_faults, is_return, with_declared}
-use Rattle.fut_check.specs.Items.{items_of, IsWellTyped}
-use Rattle.task_machine.specs.Values.{index_of, is_zero}
-use Rattle.task_machine.specs.Variables.{Slot, One, Many, Variables, slot_at, put, value_of, filled, refilled, slot_in, value_in, number_in}
-use Rattle.task_machine.specs.Texts.{stmts_of, else_of}
-use Rattle.task_machine.specs.State.{TaskState, goes_on, set_by, element_of, local_value, init_step, store_step, step_by, first_step, local_step}
-use Rattle.task_types.specs.Typed.{Text, text_at, variables_of, Fits, AllFit, HasKind, AllAmong, BreaksNoRule, AllBreakNone, EndsWithReturn, IsTypedState}
-use Rattle.task_types.proofs.Slots.{by_bool, not_both, some_one, no_some, nil_left, nil_right, nil_three, among_split, among_left, among_right, among_last, unbroken, not_found, word_is, slot_put_same, slot_put_other, all_at, all_set}
-use Rattle.task_types.proofs.Given.{Holds, Named, named, named_holds, IsGiven, expr_given, inside, init_fits, filled_has, fits_plain, plain_has, Meets, meets_of, expr_meets}
-use Rattle.task_types.proofs.Texts.{IsGoodKind, AreApart, IsGoodText, good_text, if_parts, while_block, block_none}
+use Rattle.fut_check.specs.Stmts.{assigned_rule, value_need, shown, is_return}
+use Rattle.fut_check.specs.Items.{items_of}
+use Rattle.task_machine.specs.Values.{index_of}
+use Rattle.task_machine.specs.Variables.{Slot, One, Many, Variables, slot_at, put, value_of, filled, refilled}
+use Rattle.task_machine.specs.State.{TaskState}
+use Rattle.task_types.specs.Typed.{Text, variables_of, Fits, AllFit, HasKind, AllAmong, BreaksNoRule, AllBreakNone, EndsWithReturn, IsTypedState}
+use Rattle.task_types.proofs.Slots.{by_bool, not_both, no_some, nil_right, among_split, among_left, among_right, unbroken, word_is, slot_put_same, slot_put_other, all_at}
+use Rattle.task_types.proofs.Given.{Holds, named_holds, IsGiven, inside, init_fits, filled_has, meets_of}
+use Rattle.task_types.proofs.Texts.{AreApart}
 
 -- the variables of a task hold what their types say, and none has a global name
 pub record Keeps (gives : ℕ → ℕ → Bool) (globals : List tree.Item) (t : Text) (known : List Variable) (vars : Variables) : Type 0 where
@@ -52,12 +47,12 @@ set_one gives globals t known vars x s a k i h =
         | inr r ↦ elim r [ inl e ↦ subst (λ (q : Variable). HasKind gives q.kind (slot_at (put vars x.name s) q.name)) e own | inr none ↦ absurd none ]
       ];
       globals_are = λ w d. (
-        let other : bytes_eq x.name w ≡ false =
-            by_bool (λ b. bytes_eq x.name w ≡ b → b ≡ false) (bytes_eq x.name w)
-            (λ tr. λ e. absurd (not_both (declares globals w) d (subst (λ n. declares globals n ≡ false) (word_is x.name w tr) (a.local x i))))
-            (λ f. λ e. refl) refl
-        in
-        slot_put_other vars x.name s w other ∙ k.globals_are w d);
+          let other : bytes_eq x.name w ≡ false =
+          by_bool (λ b. bytes_eq x.name w ≡ b → b ≡ false) (bytes_eq x.name w)
+          (λ tr. λ e. absurd (not_both (declares globals w) d (subst (λ n. declares globals n ≡ false) (word_is x.name w tr) (a.local x i))))
+          (λ f. λ e. refl) refl
+          in
+          slot_put_other vars x.name s w other ∙ k.globals_are w d);
     }
 
 -- fewer variables are known

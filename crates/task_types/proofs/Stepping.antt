@@ -1,6 +1,6 @@
 -- A local step keeps a state typed.
-use Rattle.std.proofs.Common.{◌≡◌, ◌≢◌, ℕ, zero, suc, ◌+◌, ◌<◌, Bool, true, false, cond, List, [], ◌∷◌, ◌++◌, append-nil, length, length-set, ◌⊎◌, inl, inr, refl, sym, ap, ◌∙◌, subst}
-use Rattle.std.specs.Prelude.{Some, None, Option, ℤ, pos, slice_set, slice_index_or}
+use Rattle.std.proofs.Common.{◌≡◌, ◌≢◌, ℕ, zero, suc, ◌+◌, Bool, true, false, cond, List, [], ◌∷◌, ◌++◌, length, length-set, inl, inr, refl, sym, ap, ◌∙◌, subst}
+use Rattle.std.specs.Prelude.{Some, None, Option, pos, slice_set, slice_index_or}
 use Rattle.fut_base.specs.declared.record.Value.{Value}
 use Rattle.fut_base.specs.declared.record.Value.TheVariants.{Int}
 use Rattle.fut_base.specs.Dag.{Among}
@@ -12,21 +12,21 @@ use Rattle.fut_check.specs.declared.names.Variable.{Variable}
 use Rattle.fut_check.specs.Faults.{broken, fault_if}
 use Rattle.fut_check.specs.Kinds.{kind_of, plain, init_need, unmet}
 use Rattle.fut_check.specs.Names.{declaration, means_cells, kind_named, variable, element, element_rule}
-use Rattle.fut_check.specs.Exprs.{expr_kind, expr_faults, needed_faults, for_int}
+use Rattle.fut_check.specs.Exprs.{needed_faults, for_int}
 use Rattle.fut_check.specs.Inits.{init_kind, inner_faults, init_faults}
 use Rattle.fut_check.specs.Widths.{expr_width, type_width, block_width}
 use Rattle.fut_check.specs.Stmts.{declared_faults, type_faults, is_handle, assigned_rule, value_need, shown, declared_in_block, declared_in_tail, stmt_faults, is_return, with_declared}
 use Rattle.fut_check.specs.Items.{items_of, IsWellTyped}
 use Rattle.task_machine.specs.Values.{index_of, is_zero}
-use Rattle.task_machine.specs.Variables.{Slot, One, Many, Variables, slot_at, put, value_of, filled, refilled, slot_in, value_in, number_in}
+use Rattle.task_machine.specs.Variables.{Slot, One, Many, Variables, slot_at, put, filled, refilled, slot_in, value_in, number_in}
 use Rattle.task_machine.specs.Texts.{stmts_of, else_of}
-use Rattle.task_machine.specs.State.{TaskState, goes_on, set_by, element_of, local_value, init_step, store_step, step_by, first_step, local_step}
+use Rattle.task_machine.specs.State.{TaskState, goes_on, set_by, element_of, local_value, init_step, store_step, step_by, first_step}
 use Rattle.task_machine.specs.Runs.{Steps}
 use Rattle.task_types.specs.Typed.{Text, text_at, variables_of, Fits, HasKind, AllAmong, BreaksNoRule, AllBreakNone, EndsWithReturn, IsTypedState}
-use Rattle.task_types.proofs.Slots.{by_bool, some_one, no_some, nil_left, nil_right, nil_three, among_left, among_right, not_found, unbroken, all_set}
-use Rattle.task_types.proofs.Given.{Holds, Named, named, named_holds, IsGiven, expr_given, init_fits, filled_has, plain_has, inside, Meets, expr_meets}
+use Rattle.task_types.proofs.Slots.{by_bool, some_one, no_some, nil_left, nil_right, nil_three, among_left, among_right, not_found, all_set}
+use Rattle.task_types.proofs.Given.{Holds, named, named_holds, expr_given, init_fits, filled_has, plain_has, inside, expr_meets}
 use Rattle.task_types.proofs.Texts.{IsGoodKind, IsGoodText, good_text, if_parts, while_block, block_none}
-use Rattle.task_types.proofs.States.{Keeps, kept, set_one, fewer, all_weak, all_append, none_shown, returns_after, returns_append, InitGives, defined_has, IsAssigned, assigned, assigned_has, IsArrayVariable, IsCellArray, before_bracket, cells_are_one, ArraySlot, array_slot, element_fits, index_below}
+use Rattle.task_types.proofs.States.{Keeps, kept, set_one, fewer, all_append, none_shown, returns_after, returns_append, InitGives, defined_has, IsAssigned, assigned, assigned_has, IsArrayVariable, before_bracket, cells_are_one, ArraySlot, array_slot, element_fits}
 
 -- a typed state, from its parts
 pub made : (gives : ℕ → ℕ → Bool) (P : tree.Program) (which : ℕ) (t : Text) (known : List Variable) (s : TaskState) → text_at P which ≡ Some t → Keeps gives (items_of P) t known s.vars → AllBreakNone (items_of P) t known s.todo → (t.depth ≢ 0 → EndsWithReturn s.todo) → IsTypedState gives P which s
@@ -70,7 +70,7 @@ local_gives gives P which t known vars stmt rest n (tree.Index w e) v f c l =
       | inl a ↦ (
           let s = array_here gives P which t known vars stmt rest w f a in
           let same : slice_index_or s.values (index_of (length s.values) (number_in vars e)) (Int (pos 0)) ≡ v =
-              some_one _ v (subst (λ x. element_of x (number_in vars e) ≡ Some v) s.is l)
+          some_one _ v (subst (λ x. element_of x (number_in vars e) ≡ Some v) s.is l)
           in
           let fits : Fits gives a.depth v = subst (Fits gives a.depth) same (element_fits gives a.depth a.size s.values (number_in vars e) s.count (sized gives P which t known vars stmt rest w f a) s.fit) in
           record {
@@ -141,7 +141,7 @@ store_set gives P which t known s rest w e g u f h =
       | inl a ↦ (
           let sl = array_here gives P which t known s.vars (tree.Store w e g) rest w f a in
           let clean : needed_faults vis (f.own.at + 2 + expr_width e + 2) (Some (init_need (kind_of (tree.Plain a.depth)))) g ≡ [] =
-              subst (λ o. needed_faults vis (f.own.at + 2 + expr_width e + 2) (value_need (element o (means_cells (declaration (items_of P) w)))) g ≡ []) a.kind parts.2
+          subst (λ o. needed_faults vis (f.own.at + 2 + expr_width e + 2) (value_need (element o (means_cells (declaration (items_of P) w)))) g ≡ []) a.kind parts.2
           in
           let m = expr_meets gives vis s.vars (f.own.at + 2 + expr_width e + 2) (init_need (kind_of (tree.Plain a.depth))) g (seen gives P which t known s.vars (tree.Store w e g) rest f) clean in
           let v = value_in s.vars g in
@@ -175,11 +175,11 @@ if_step gives P which t known s rest e b o f =
     let ends : t.depth ≢ 0 → EndsWithReturn rest = λ ne. returns_after (tree.If' e b o) rest refl (f.returns ne) in
     by_bool (λ c. IsTypedState gives P which (goes_on s (cond c (else_of o ++ rest) (stmts_of b ++ rest)) s.vars)) (is_zero (number_in s.vars e))
     (λ z. branch gives P which t known s (else_of o) rest f.is f.keeps
-      (else_none (items_of P) t (with_declared f.own.scope (declared_in_block b)) (f.own.at + 1 + expr_width e + 1 + block_width b + 1) known o f.own.returns f.own.visible (λ x i. f.own.declared x (among_right x (declared_in_block b) (declared_in_tail o) i)) parts.tail)
-      left ends)
+    (else_none (items_of P) t (with_declared f.own.scope (declared_in_block b)) (f.own.at + 1 + expr_width e + 1 + block_width b + 1) known o f.own.returns f.own.visible (λ x i. f.own.declared x (among_right x (declared_in_block b) (declared_in_tail o) i)) parts.tail)
+    left ends)
     (λ z. branch gives P which t known s (stmts_of b) rest f.is f.keeps
-      (block_none (items_of P) t f.own.scope (f.own.at + 1 + expr_width e + 1) known b f.own.returns f.own.visible (λ x i. f.own.declared x (among_left x (declared_in_block b) (declared_in_tail o) i)) parts.block)
-      left ends)
+    (block_none (items_of P) t f.own.scope (f.own.at + 1 + expr_width e + 1) known b f.own.returns f.own.visible (λ x i. f.own.declared x (among_left x (declared_in_block b) (declared_in_tail o) i)) parts.block)
+    left ends)
 
 while_step : (gives : ℕ → ℕ → Bool) (P : tree.Program) (which : ℕ) (t : Text) (known : List Variable) (s : TaskState) (rest : List tree.Stmt) (e : tree.Expr) (b : tree.Block) → Front gives P which t known s.vars (tree.While' e b) rest → IsTypedState gives P which (goes_on s (cond (is_zero (number_in s.vars e)) rest (stmts_of b ++ tree.While' e b ∷ rest)) s.vars)
 while_step gives P which t known s rest e b f =
@@ -187,8 +187,8 @@ while_step gives P which t known s rest e b f =
     by_bool (λ c. IsTypedState gives P which (goes_on s (cond c rest (stmts_of b ++ tree.While' e b ∷ rest)) s.vars)) (is_zero (number_in s.vars e))
     (λ z. made gives P which t known (goes_on s rest s.vars) f.is f.keeps left (λ ne. returns_after (tree.While' e b) rest refl (f.returns ne)))
     (λ z. branch gives P which t known s (stmts_of b) (tree.While' e b ∷ rest) f.is f.keeps
-      (block_none (items_of P) t f.own.scope (f.own.at + 1 + expr_width e + 1) known b f.own.returns f.own.visible f.own.declared (while_block (items_of P) f.own.scope f.own.at e b f.own.clean))
-      (f.own, f.later) f.returns)
+    (block_none (items_of P) t f.own.scope (f.own.at + 1 + expr_width e + 1) known b f.own.returns f.own.visible f.own.declared (while_block (items_of P) f.own.scope f.own.at e b f.own.clean))
+    (f.own, f.later) f.returns)
 
 stmt_step : (gives : ℕ → ℕ → Bool) (P : tree.Program) (which : ℕ) (t : Text) (known : List Variable) (s : TaskState) (rest : List tree.Stmt) (stmt : tree.Stmt) (u : TaskState) → Front gives P which t known s.vars stmt rest → step_by s rest stmt ≡ Some u → IsTypedState gives P which u
 stmt_step gives P which t known s rest (tree.Declare w type) u f h =

@@ -1,6 +1,6 @@
 -- What a program without faults is: names that differ, good types, and bodies without faults.
 use Rattle.std.proofs.Common.{◌≡◌, ◌≢◌, ℕ, zero, suc, ◌+◌, ◌<◌, Bool, true, false, cond, not, ◌&&◌, ◌||◌, List, [], ◌∷◌, ◌++◌, append_assoc, length, ◌⊎◌, inl, inr, refl, sym, ap, ◌∙◌, subst, arith, eqb-true, ltb-false, ltb-true}
-use Rattle.std.specs.Prelude.{Some, None, Option, bytes_eq, nat_eq, nat_lt, slice_get}
+use Rattle.std.specs.Prelude.{Some, bytes_eq, nat_eq, nat_lt, slice_get}
 use Rattle.std.proofs.lemmas.Bool.{not-false}
 use Rattle.fut_base.specs.Dag.{Among}
 use Rattle.fut_syntax.specs.Trees as tree
@@ -8,17 +8,17 @@ use Rattle.fut_check.specs.declared.kind.Kind.{Kind}
 use Rattle.fut_check.specs.declared.kind.Kind.TheVariants as kind
 use Rattle.fut_check.specs.declared.fault.Rule.TheVariants as rule
 use Rattle.fut_check.specs.declared.names.Variable.{Variable}
-use Rattle.fut_check.specs.Faults.{broken, fault_if}
-use Rattle.fut_check.specs.Kinds.{kind_of, size, plain, init_need, result_rule}
-use Rattle.fut_check.specs.Names.{Scope, declares, declaration, means_cells, is_named, slots, variable, kind_named, element, element_rule, tasks, is_main, has_main}
-use Rattle.fut_check.specs.Exprs.{expr_faults, expr_kind, needed_faults, for_int}
-use Rattle.fut_check.specs.Inits.{init_faults, call_faults}
+use Rattle.fut_check.specs.Faults.{fault_if}
+use Rattle.fut_check.specs.Kinds.{kind_of, size, plain, init_need}
+use Rattle.fut_check.specs.Names.{Scope, declares, is_named, slots, variable, tasks, is_main}
+use Rattle.fut_check.specs.Exprs.{needed_faults, for_int}
+use Rattle.fut_check.specs.Inits.{init_faults}
 use Rattle.fut_check.specs.Widths.{expr_width, type_width, stmt_width, block_width, param_width, params_width, item_width}
-use Rattle.fut_check.specs.Stmts.{type_faults, depth_faults, is_bad_length, is_doubled, declared_faults, is_handle, assigned_rule, value_need, shown, declared_in, declared_in_block, declared_in_tail, with_declared, scope_after, stmt_faults, block_faults, tail_faults, is_return, ends_with, ends_with_return}
-use Rattle.fut_check.specs.Items.{items_of, param_variable, param_variables, is_over, param_faults, params_faults, has_params, opening_scope, body_faults, head_faults, item_faults, items_faults, is_bad_array, IsWellTyped}
+use Rattle.fut_check.specs.Stmts.{type_faults, depth_faults, is_bad_length, is_doubled, declared_faults, is_handle, shown, declared_in, declared_in_block, declared_in_tail, with_declared, scope_after, stmt_faults, block_faults, tail_faults, is_return, ends_with, ends_with_return}
+use Rattle.fut_check.specs.Items.{items_of, param_variable, param_variables, is_over, param_faults, params_faults, has_params, opening_scope, body_faults, head_faults, item_faults, items_faults, IsWellTyped}
 use Rattle.task_machine.specs.Texts.{stmts_of}
-use Rattle.task_types.specs.Typed.{Text, texts_from, text_at, variables_of, AllAmong, BreaksNoRule, AllBreakNone, EndsWithReturn}
-use Rattle.task_types.proofs.Slots.{by_bool, not_both, some_one, no_some, nil_left, nil_right, nil_three, among_split, among_left, among_right, not_found, same_word, word_is}
+use Rattle.task_types.specs.Typed.{Text, texts_from, text_at, variables_of, AllAmong, AllBreakNone, EndsWithReturn}
+use Rattle.task_types.proofs.Slots.{not_both, some_one, no_some, nil_left, nil_right, nil_three, among_split, among_left, among_right, not_found, same_word}
 
 -- an array has elements, and they are handles
 abbrev pub IsGoodKind : Kind → Type 0
@@ -151,12 +151,11 @@ pub block_none : (globals : List tree.Item) (t : Text) (s : Scope) (n : ℕ) (kn
 block_none globals t s n known tree.Done r v d f = tt
 block_none globals t s n known (tree.Then x b) r v d f =
     let own = nil_left (stmt_faults globals s n x) (block_faults globals (scope_after s x) (n + stmt_width x) b) f in
-    let rest = nil_right (stmt_faults globals s n x) (block_faults globals (scope_after s x) (n + stmt_width x) b) f in
-    (
+    let rest = nil_right (stmt_faults globals s n x) (block_faults globals (scope_after s x) (n + stmt_width x) b) f in (
       record { scope = s; at = n; returns = r; visible = v; declared = λ y i. d y (among_left y (declared_in x) (declared_in_block b) i); clean = own },
       block_none globals t (scope_after s x) (n + stmt_width x) (known ++ shown x) b r
-      (λ y i. elim (among_split y s.visible (shown x) i) [ inl l ↦ among_left y known (shown x) (v y l) | inr l ↦ among_right y known (shown x) l ])
-      (λ y i. d y (among_right y (declared_in x) (declared_in_block b) i)) rest,
+          (λ y i. elim (among_split y s.visible (shown x) i) [ inl l ↦ among_left y known (shown x) (v y l) | inr l ↦ among_right y known (shown x) l ])
+          (λ y i. d y (among_right y (declared_in x) (declared_in_block b) i)) rest,
     )
 
 -- ---- the last statement

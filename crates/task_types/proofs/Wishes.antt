@@ -1,8 +1,8 @@
 -- A typed task that stands at an event has a wish, and what it passes on fits.
-use Rattle.std.proofs.Common.{◌≡◌, ◌≢◌, ℕ, zero, suc, ◌+◌, Bool, true, false, cond, List, [], ◌∷◌, ◌++◌, ◌⊎◌, inl, inr, refl, sym, ap, ap₂, ◌∙◌, subst, eqb-true}
-use Rattle.std.specs.Prelude.{Some, None, Option, ℤ, pos, nat_eq}
+use Rattle.std.proofs.Common.{◌≡◌, ◌≢◌, ℕ, zero, suc, ◌+◌, Bool, true, false, cond, List, [], ◌∷◌, ◌⊎◌, inl, inr, refl, sym, ap, ◌∙◌, subst, eqb-true}
+use Rattle.std.specs.Prelude.{Some, None, ℤ, pos, nat_eq}
 use Rattle.fut_base.specs.declared.record.Value.{Value}
-use Rattle.fut_base.specs.declared.record.Value.TheVariants.{Int, Fut}
+use Rattle.fut_base.specs.declared.record.Value.TheVariants.{Int}
 use Rattle.fut_base.specs.Dag.{Among}
 use Rattle.fut_syntax.specs.Trees as tree
 use Rattle.fut_check.specs.declared.kind.Kind.{Kind}
@@ -10,20 +10,17 @@ use Rattle.fut_check.specs.declared.kind.Kind.TheVariants as kind
 use Rattle.fut_check.specs.declared.fault.Rule.TheVariants as rule
 use Rattle.fut_check.specs.declared.names.Variable.{Variable}
 use Rattle.fut_check.specs.Faults.{broken}
-use Rattle.fut_check.specs.Kinds.{plain, result_rule, is_result}
+use Rattle.fut_check.specs.Kinds.{result_rule}
 use Rattle.fut_check.specs.Exprs.{expr_kind, expr_faults}
-use Rattle.fut_check.specs.Stmts.{is_return}
-use Rattle.fut_check.specs.Items.{items_of, IsWellTyped}
+use Rattle.fut_check.specs.Items.{IsWellTyped}
 use Rattle.fut_check.specs.Widths.{type_width}
-use Rattle.task_machine.specs.Variables.{Slot, One, Many, Variables, slot_at, value_of, slot_in, value_in, number_in, values_in}
-use Rattle.task_machine.specs.Texts.{task_number, cell_at}
-use Rattle.task_machine.specs.State.{TaskState, Wish, ToRead, ToWrite, ToSpawn, ToCreate, ToSync, ToGet, ToEnd, NoWish, local_value, first_step, local_step, read_of, write_of, spawn_of, create_of, get_of, end_of, wish_of_init, wish_by, first_wish, wish_of}
-use Rattle.task_types.specs.Typed.{Text, text_at, variables_of, Fits, HasKind, ParamsFit, ArgsFit, EndsWithReturn, IsTypedState, got_word, got_by, GetsDepth}
+use Rattle.task_machine.specs.Variables.{Slot, One, Many, Variables, value_of, slot_in, value_in, number_in, values_in}
+use Rattle.task_machine.specs.State.{TaskState, ToRead, ToWrite, ToSpawn, ToCreate, ToSync, ToGet, ToEnd, NoWish, local_value, first_step, local_step, write_of, spawn_of, end_of, wish_of_init, first_wish, wish_of}
+use Rattle.task_types.specs.Typed.{Text, text_at, variables_of, Fits, HasKind, ArgsFit, EndsWithReturn, IsTypedState, got_word, got_by, GetsDepth}
 use Rattle.task_types.proofs.Slots.{by_bool, some_one, no_some, nil_left, nil_right, unbroken}
 use Rattle.task_types.proofs.Given.{expr_given}
 use Rattle.task_types.proofs.Stepping.{Front, seen, front}
-use Rattle.task_types.proofs.Calling.{IsCalled}
-use Rattle.task_types.proofs.Texts.{IsGoodText, good_text}
+use Rattle.task_types.proofs.Texts.{good_text}
 use Rattle.task_types.proofs.Wishing.{IsGet, IsCreate, IsRead, init_event, get_wish, create_wish, read_wish, no_step, store_cell, spawn_called, inner_define, inner_assign, got_variable}
 
 -- what a typed task that stands at an event wishes, with what is known of it
@@ -178,7 +175,7 @@ get_fits P gives which s future d k (WishesGet f c w fits word q t is a) h (u, v
     let text : u ≡ t = some_one u t (sym at ∙ is) in
     let names : v ≡ word = some_one v word (sym got ∙ q) in
     let there : Among (record { name = word; kind = kind.Handle d }) (variables_of t) =
-        subst (λ (y : Text). Among (record { name = word; kind = kind.Handle d }) (variables_of y)) text (subst (λ y. Among (record { name = y; kind = kind.Handle d }) (variables_of u)) names b)
+    subst (λ (y : Text). Among (record { name = word; kind = kind.Handle d }) (variables_of y)) text (subst (λ y. Among (record { name = y; kind = kind.Handle d }) (variables_of u)) names b)
     in
     let one = (good_text P which t k is).apart.one (record { name = word; kind = kind.Handle c }) (record { name = word; kind = kind.Handle d }) a there refl in
     let depth : c ≡ d = kind_one (kind.Handle c) (kind.Handle d) c d refl refl (ap (λ (x : Variable). x.kind) one) in

@@ -1,5 +1,5 @@
 -- What a typed task wishes, and the state after an action that answers.
-use Rattle.std.proofs.Common.{◌≡◌, ◌≢◌, ℕ, zero, suc, ◌+◌, Bool, true, false, cond, List, [], ◌∷◌, ◌++◌, append-nil, ◌⊎◌, inl, inr, refl, sym, ap, ap₂, ◌∙◌, subst}
+use Rattle.std.proofs.Common.{◌≡◌, ℕ, ◌+◌, Bool, true, false, List, [], ◌∷◌, ◌++◌, ◌⊎◌, inl, inr, refl, sym, ap, ap₂, ◌∙◌, subst}
 use Rattle.std.specs.Prelude.{Some, None, Option, ℤ, pos}
 use Rattle.fut_base.specs.declared.record.Value.{Value}
 use Rattle.fut_base.specs.declared.record.Value.TheVariants.{Int, Fut}
@@ -9,24 +9,22 @@ use Rattle.fut_base.specs.Dag.{Among, ends}
 use Rattle.fut_syntax.specs.Trees as tree
 use Rattle.fut_check.specs.declared.kind.Kind.{Kind}
 use Rattle.fut_check.specs.declared.kind.Kind.TheVariants as kind
-use Rattle.fut_check.specs.declared.kind.Need.TheVariants as need
 use Rattle.fut_check.specs.declared.names.Variable.{Variable}
 use Rattle.fut_check.specs.Faults.{broken}
-use Rattle.fut_check.specs.Kinds.{plain, need_rule, unmet, init_need, kind_of, result_rule, is_result}
-use Rattle.fut_check.specs.Names.{Signature, declaration, means_cells, means_task, kind_named, element, element_rule}
-use Rattle.fut_check.specs.Exprs.{expr_kind, expr_faults, needed_faults, for_int}
-use Rattle.fut_check.specs.Inits.{get_rule, got_of, created, init_kind, inner_faults, init_faults, call_faults}
+use Rattle.fut_check.specs.Kinds.{plain, unmet, init_need, kind_of}
+use Rattle.fut_check.specs.Names.{declaration, means_cells, kind_named, element, element_rule}
+use Rattle.fut_check.specs.Exprs.{needed_faults, for_int}
+use Rattle.fut_check.specs.Inits.{get_rule, got_of, created, init_kind, inner_faults}
 use Rattle.fut_check.specs.Widths.{expr_width, type_width}
 use Rattle.fut_check.specs.Stmts.{value_need, shown, is_return}
 use Rattle.fut_check.specs.Items.{items_of, IsWellTyped}
-use Rattle.task_machine.specs.Variables.{Slot, One, Many, Variables, slot_at, value_of, slot_in, value_in, number_in, values_in}
-use Rattle.task_machine.specs.Texts.{task_number, cell_at}
+use Rattle.task_machine.specs.Variables.{Slot, One, Many, Variables, slot_at, value_of, value_in, number_in, values_in}
+use Rattle.task_machine.specs.Texts.{cell_at}
 use Rattle.task_machine.specs.State.{TaskState, Wish, ToRead, ToWrite, ToSpawn, ToCreate, ToSync, ToGet, ToEnd, NoWish, goes_on, local_value, init_step, store_step, step_by, first_step, local_step, read_of, write_of, spawn_of, create_of, get_of, end_of, wish_of_init, wish_by, first_wish, wish_of, Answers, set_by, receives, passes, after_sync, effect_of}
-use Rattle.task_types.specs.Typed.{Text, text_at, variables_of, Fits, HasKind, ParamsFit, ArgsFit, AllBreakNone, EndsWithReturn, IsTypedState, got_word, got_by, GetsDepth, ActionFits}
-use Rattle.task_types.proofs.Slots.{by_bool, some_one, no_some, nil_left, nil_right, nil_three, unbroken}
-use Rattle.task_types.proofs.Given.{Holds, Named, named, named_holds, IsGiven, expr_given, plain_has}
-use Rattle.task_types.proofs.Texts.{IsGoodText, good_text}
-use Rattle.task_types.proofs.States.{Keeps, kept, none_shown, returns_after, InitGives, IsArrayVariable, IsCellArray, before_bracket, cells_are_one}
+use Rattle.task_types.specs.Typed.{Text, variables_of, Fits, HasKind, AllBreakNone, IsTypedState, got_word, got_by, GetsDepth, ActionFits}
+use Rattle.task_types.proofs.Slots.{no_some, nil_left, nil_three, unbroken}
+use Rattle.task_types.proofs.Given.{named, named_holds, plain_has}
+use Rattle.task_types.proofs.States.{none_shown, returns_after, InitGives, IsCellArray, before_bracket}
 use Rattle.task_types.proofs.Stepping.{made, Front, seen, array_here, front, define_init, assign_init, define_set, assign_set}
 use Rattle.task_types.proofs.Calling.{cell_found, IsCalled, called}
 
@@ -211,7 +209,7 @@ given_by : (gives : ℕ → ℕ → Bool) (P : tree.Program) (which : ℕ) (t : 
 given_by gives P which t known s stmt rest i a e w f (inl g) h fits =
     let o = only_gets g.future a (subst (λ x. Answers x a) (get_wish gives P f.own.scope.visible s.vars i g) h) in
     let depth : GetsDepth P which s g.depth =
-        (t, g.word, f.is, ap got_by e ∙ w ∙ ap got_word g.init, got_variable gives P which t known s.vars stmt rest i f g)
+    (t, g.word, f.is, ap got_by e ∙ w ∙ ap got_word g.init, got_variable gives P which t known s.vars stmt rest i f g)
     in
     let value_fits : ActionFits gives P which s (Gets g.future o.0 o.1) = subst (ActionFits gives P which s) o.2 fits in
     (o.0, get_gives gives P f.own.scope.visible s.vars i o.0 g (value_fits g.depth depth), ap (effect_of s) o.2)

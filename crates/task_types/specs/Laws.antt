@@ -5,8 +5,9 @@ use Rattle.fut_base.specs.declared.event.Action.{Action}
 use Rattle.fut_base.specs.Dag.{ends}
 use Rattle.fut_syntax.specs.Trees as tree
 use Rattle.fut_check.specs.Items.{IsWellTyped}
-use Rattle.task_machine.specs.State.{TaskState, Wish, ToSpawn, ToCreate, ToGet, ToEnd, NoWish, local_step, wish_of, effect_of, start_state, Answers}
+use Rattle.task_machine.specs.State.{TaskState, ToSpawn, ToCreate, ToGet, ToEnd, NoWish, local_step, wish_of, effect_of, start_state, Answers}
 use Rattle.task_machine.specs.Runs.{Steps}
+use Rattle.task_types.specs.Running.{Grows}
 use Rattle.task_types.specs.Typed.{Text, text_at, Fits, ArgsFit, ActionFits, GetsDepth, IsTypedState}
 
 -- a task begins with the types kept where its arguments fit
@@ -50,3 +51,8 @@ abbrev pub WishedGetFits : Type 0
 WishedGetFits =
     (gives : ℕ → ℕ → Bool) (P : tree.Program) (which : ℕ) (s : TaskState) (future d : ℕ) → IsWellTyped P → IsTypedState gives P which s
     → local_step s ≡ None → wish_of P s ≡ ToGet future → GetsDepth P which s d → gives future d ≡ true
+
+-- what fits goes on to fit where more futures are known
+abbrev pub TypedGrows : Type 0
+TypedGrows =
+    (old new : ℕ → ℕ → Bool) (P : tree.Program) (which : ℕ) (s : TaskState) → Grows old new → IsTypedState old P which s → IsTypedState new P which s

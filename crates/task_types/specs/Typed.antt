@@ -1,5 +1,5 @@
 -- What the type rules say of a task while it runs: which of its variables hold numbers, and which hold handles.
-use Rattle.std.specs.Prelude.{◌≡◌, ◌≢◌, ℕ, zero, suc, ◌+◌, Bool, true, false, List, [], ◌∷◌, ◌++◌, length, take, drop, slice_get, Option, Some, None, pos}
+use Rattle.std.specs.Prelude.{◌≡◌, ◌≢◌, ℕ, zero, suc, Bool, true, List, [], ◌∷◌, ◌++◌, length, slice_get, Option, Some, None, pos}
 use Rattle.fut_base.specs.declared.record.Value.{Value}
 use Rattle.fut_base.specs.declared.record.Value.TheVariants.{Int, Fut}
 use Rattle.fut_base.specs.declared.event.Action.{Action}
@@ -13,7 +13,7 @@ use Rattle.fut_check.specs.Kinds.{kind_of, size}
 use Rattle.fut_check.specs.Names.{Scope, declares}
 use Rattle.fut_check.specs.Items.{items_of, param_variables}
 use Rattle.fut_check.specs.Stmts.{stmt_faults, declared_in, declared_in_block, shown, is_return}
-use Rattle.task_machine.specs.Variables.{Slot, One, Many, Variables, slot_at}
+use Rattle.task_machine.specs.Variables.{Slot, One, Many, slot_at}
 use Rattle.task_machine.specs.State.{TaskState}
 
 -- a task of the text: its parameters, the number of `fut` before the `int` of its result, and its body

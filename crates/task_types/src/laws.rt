@@ -1,5 +1,6 @@
 //! Laws of tasks of a well-typed program.
-ghost use Rattle.task_types.specs.Laws.{StartIsTyped, StepsStayTyped, EffectStaysTyped, TypedHasWish, WishedArgsFit, WishedEndFits, WishedGetFits};
+ghost use Rattle.task_types.specs.Laws.{StartIsTyped, StepsStayTyped, EffectStaysTyped, TypedHasWish, WishedArgsFit, WishedEndFits, WishedGetFits, TypedGrows};
+ghost use Rattle.task_types.specs.Running.{RunsAreTyped, StepsFit, ChildrenFit, RunningHasWish, MainFits};
 
 /// A task whose arguments fit begins with the types kept.
 pub fn start_is_typed()
@@ -34,4 +35,34 @@ pub fn wished_end_fits()
 /// A future that is to be got gives what the handle's type says.
 pub fn wished_get_fits()
     ensures { WishedGetFits }
+{}
+
+/// What fits goes on to fit where more futures are known.
+pub fn typed_grows()
+    ensures { TypedGrows }
+{}
+
+/// In every run of a well-typed program each task keeps the type rules, and has ended with a value that fits.
+pub fn runs_are_typed()
+    ensures { RunsAreTyped }
+{}
+
+/// What an event gives its task fits.
+pub fn steps_fit()
+    ensures { StepsFit }
+{}
+
+/// The arguments of a task that an event begins fit its parameters.
+pub fn children_fit()
+    ensures { ChildrenFit }
+{}
+
+/// In every run of a well-typed program a task that stands at an event has a wish.
+pub fn running_has_wish()
+    ensures { RunningHasWish }
+{}
+
+/// `main` has no parameters.
+pub fn main_fits()
+    ensures { MainFits }
 {}
