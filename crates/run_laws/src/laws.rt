@@ -1,0 +1,7 @@
+//! Laws of legal histories.
+ghost use Rattle.run_laws.specs.Laws.{MirrorsStructure};
+
+/// The tasks and the next numbers of the machine are what the functions on the structure give.
+pub fn mirrors()
+    ensures { MirrorsStructure }
+{}
