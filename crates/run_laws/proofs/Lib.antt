@@ -1,2 +1,5 @@
 pub mod Pasts
 pub mod Mirrored
+pub mod Handles
+pub mod Holding
+pub mod Sound

@@ -146,7 +146,7 @@ created_next P past by s code child kid cont args ne x =
       last = last_off child by false (Some s) (last_of past child) ne ∙ x.last;
     }
 
-only : {X : Type 0} (x y : X) (k : ℕ) → slice_get (x ∷ []) k ≡ Some y → (k ≡ 0) × (x ≡ y)
+pub only : {X : Type 0} (x y : X) (k : ℕ) → slice_get (x ∷ []) k ≡ Some y → (k ≡ 0) × (x ≡ y)
 only x y zero h = (refl, cc)
 only x y (suc k) h = cc
 

@@ -4,9 +4,9 @@ use Rattle.fut_base.specs.declared.record.Value.{Value}
 use Rattle.fut_base.specs.declared.event.Event.{Event}
 use Rattle.fut_base.specs.Events.{structure_of}
 use Rattle.fut_base.specs.Dag.{last_of, block_of}
-use Rattle.fut_base.specs.Sound.{current, next_task, next_strand, future_of, value_of}
+use Rattle.fut_base.specs.Sound.{IsSound, current, next_task, next_strand, future_of, value_of}
 use Rattle.fut_syntax.specs.Trees as tree
-use Rattle.task_machine.specs.Machine.{Machine, Running, opening, Leads}
+use Rattle.task_machine.specs.Machine.{Machine, Running, opening, Leads, IsLegal}
 
 -- the structure of a history, newest event first
 abbrev pub past_of : List Event → List Event
@@ -37,3 +37,7 @@ pub record Mirrors (past : List Event) (m : Machine) : Type 0 where
 -- the machine to which a history leads is what the functions on its structure give
 abbrev pub MirrorsStructure : Type 0
 MirrorsStructure = (P : tree.Program) (h : List Event) (m : Machine) → Leads P (opening P) h m → Mirrors (past_of h) m
+
+-- the structure of a legal history is sound
+abbrev pub LegalIsSound : Type 0
+LegalIsSound = (P : tree.Program) (h : List Event) → IsLegal P h → IsSound (structure_of h)
