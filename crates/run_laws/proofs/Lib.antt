@@ -3,3 +3,4 @@ pub mod Mirrored
 pub mod Handles
 pub mod Holding
 pub mod Sound
+pub mod Once

@@ -1,12 +1,15 @@
 -- Laws of legal histories. Lists of events called `past` have the newest event first.
-use Rattle.std.specs.Prelude.{◌≡◌, ℕ, ◌≤◌, List, [], length, reverse, slice_get, Some, None, option_map}
+use Rattle.std.specs.Prelude.{◌≡◌, ◌≢◌, ℕ, ◌<◌, ◌≤◌, Bool, true, ◌==◌, ◌&&◌, List, [], ◌∷◌, ◌++◌, length, count_by, reverse, slice_get, Some, None, option_map}
 use Rattle.fut_base.specs.declared.record.Value.{Value}
 use Rattle.fut_base.specs.declared.event.Event.{Event}
-use Rattle.fut_base.specs.Events.{structure_of}
-use Rattle.fut_base.specs.Dag.{last_of, block_of}
+use Rattle.fut_base.specs.declared.event.Action.{Action}
+use Rattle.fut_base.specs.declared.event.Action.TheVariants.{Spawns, Creates, Syncs, Gets}
+use Rattle.fut_base.specs.Events.{structural, structure_of}
+use Rattle.fut_base.specs.Dag.{Among, last_of, block_of}
+use Rattle.fut_base.specs.Orders.{is_in}
 use Rattle.fut_base.specs.Sound.{IsSound, current, next_task, next_strand, future_of, value_of}
 use Rattle.fut_syntax.specs.Trees as tree
-use Rattle.task_machine.specs.Machine.{Machine, Running, opening, Leads, IsLegal}
+use Rattle.task_machine.specs.Machine.{Machine, Running, opening, Leads, IsLegal, EachEnded}
 
 -- the structure of a history, newest event first
 abbrev pub past_of : List Event → List Event
@@ -41,3 +44,44 @@ MirrorsStructure = (P : tree.Program) (h : List Event) (m : Machine) → Leads P
 -- the structure of a legal history is sound
 abbrev pub LegalIsSound : Type 0
 LegalIsSound = (P : tree.Program) (h : List Event) → IsLegal P h → IsSound (structure_of h)
+
+-- the strands that an action begins
+abbrev pub begun_by : Action → List ℕ
+begun_by (Spawns _ _ kid cont _) = kid ∷ cont ∷ []
+begun_by (Creates _ _ kid cont _) = kid ∷ cont ∷ []
+begun_by (Syncs strand) = strand ∷ []
+begun_by (Gets _ _ strand) = strand ∷ []
+begun_by _ = []
+
+abbrev pub begins_strand : ℕ → Event → Bool
+begins_strand v e = is_in v (begun_by e.action)
+
+-- a structural event leaves the strand on which it stands
+abbrev pub leaves_strand : ℕ → Event → Bool
+leaves_strand v e = structural e.action && (e.strand == v)
+
+-- how often a history begins a strand
+pub record IsBegunOnce (h : List Event) (strands v : ℕ) : Type 0 where
+  pub once : 0 < v → v < strands → count_by (begins_strand v) h ≡ 1
+  pub first : v ≡ 0 → count_by (begins_strand v) h ≡ 0
+  pub later : strands ≤ v → count_by (begins_strand v) h ≡ 0
+
+-- a legal history begins each strand but 0 by one event
+abbrev pub BegunOnce : Type 0
+BegunOnce = (P : tree.Program) (h : List Event) (m : Machine) (v : ℕ) → Leads P (opening P) h m → IsBegunOnce h m.strands v
+
+-- after an event that leaves its strand no event stands on that strand
+abbrev pub LeftForGood : Type 0
+LeftForGood =
+    (P : tree.Program) (before : List Event) (e : Event) (later : List Event) → IsLegal P (before ++ e ∷ later) → structural e.action ≡ true
+    → (d : Event) → Among d later → d.strand ≢ e.strand
+
+-- at most one event leaves a strand
+abbrev pub LeftOnce : Type 0
+LeftOnce = (P : tree.Program) (h : List Event) (m : Machine) (v : ℕ) → Leads P (opening P) h m → count_by (leaves_strand v) h ≤ 1
+
+-- where all tasks have ended one event leaves each strand
+abbrev pub WholeLeavesEach : Type 0
+WholeLeavesEach =
+    (P : tree.Program) (h : List Event) (m : Machine) (v : ℕ) → Leads P (opening P) h m → EachEnded m.tasks → v < m.strands
+    → count_by (leaves_strand v) h ≡ 1

@@ -1,5 +1,5 @@
 //! Laws of legal histories.
-ghost use Rattle.run_laws.specs.Laws.{LegalIsSound, MirrorsStructure};
+ghost use Rattle.run_laws.specs.Laws.{BegunOnce, LeftForGood, LeftOnce, LegalIsSound, MirrorsStructure, WholeLeavesEach};
 
 /// The tasks and the next numbers of the machine are what the functions on the structure give.
 pub fn mirrors()
@@ -9,4 +9,24 @@ pub fn mirrors()
 /// The structure of a legal history is sound.
 pub fn legal_is_sound()
     ensures { LegalIsSound }
+{}
+
+/// Each strand but 0 is begun by one entry.
+pub fn begun_once()
+    ensures { BegunOnce }
+{}
+
+/// No entry stands on a strand that was left.
+pub fn left_for_good()
+    ensures { LeftForGood }
+{}
+
+/// Each strand is left by at most one entry.
+pub fn left_once()
+    ensures { LeftOnce }
+{}
+
+/// In a whole history each strand is left by one entry.
+pub fn whole_leaves_each()
+    ensures { WholeLeavesEach }
 {}
