@@ -4,3 +4,4 @@ pub mod Handles
 pub mod Holding
 pub mod Sound
 pub mod Once
+pub mod Ended

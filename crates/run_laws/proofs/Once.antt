@@ -66,10 +66,10 @@ new_begun m r (Syncs strand) v may le lt = in_one v strand (omega (arith, may.0)
 new_begun m r (Gets _ _ strand) v may le lt = in_one v strand (omega (arith, may.0))
 new_begun m r (Ends _) v may le lt = absurd (omega arith)
 
-count_on : (p : Event → Bool) (e : Event) (h : List Event) → p e ≡ true → count_by p (e ∷ h) ≡ 1 + count_by p h
+pub count_on : (p : Event → Bool) (e : Event) (h : List Event) → p e ≡ true → count_by p (e ∷ h) ≡ 1 + count_by p h
 count_on p e h st = sum_by-cons (λ x. cond (p x) 1 0) e h ∙ ap (λ (b : Bool). cond b 1 0 + count_by p h) st
 
-count_off : (p : Event → Bool) (e : Event) (h : List Event) → p e ≡ false → count_by p (e ∷ h) ≡ count_by p h
+pub count_off : (p : Event → Bool) (e : Event) (h : List Event) → p e ≡ false → count_by p (e ∷ h) ≡ count_by p h
 count_off p e h off = sum_by-cons (λ x. cond (p x) 1 0) e h ∙ ap (λ (b : Bool). cond b 1 0 + count_by p h) off ∙ (let z : 0 + count_by p h ≡ count_by p h = omega arith in z)
 
 pub strands_grow : (P : tree.Program) (m : Machine) (h : List Event) (n : Machine) → Leads P m h n → m.strands ≤ n.strands
@@ -185,7 +185,7 @@ module _ (P : tree.Program) (m : Machine) (e : Event) (n : Machine) (x : IsStep 
   rises = strands_rise P m e n x
 
   -- where each task of the next machine comes from
-  comes : (t : ℕ) (q : Running) → slice_get n.tasks t ≡ Some q
+  pub comes : (t : ℕ) (q : Running) → slice_get n.tasks t ≡ Some q
       → ((t ≡ e.task) × (acted x.task x.stop e.action ≡ q)) ⊎ (((t ≢ e.task) × (slice_get m.tasks t ≡ Some q)) ⊎ Behind m.tasks (child_of P x.task e.action) t q)
   comes t q h =
       get_after m.tasks (child_of P x.task e.action) e.task (acted x.task x.stop e.action) x.task x.present t q (subst (λ (z : Machine). slice_get z.tasks t ≡ Some q) x.gives h)

@@ -3,9 +3,9 @@ use Rattle.std.specs.Prelude.{◌≡◌, ◌≢◌, ℕ, ◌<◌, ◌≤◌, Boo
 use Rattle.fut_base.specs.declared.record.Value.{Value}
 use Rattle.fut_base.specs.declared.event.Event.{Event}
 use Rattle.fut_base.specs.declared.event.Action.{Action}
-use Rattle.fut_base.specs.declared.event.Action.TheVariants.{Spawns, Creates, Syncs, Gets}
+use Rattle.fut_base.specs.declared.event.Action.TheVariants.{Spawns, Creates, Syncs, Gets, Ends}
 use Rattle.fut_base.specs.Events.{structural, structure_of}
-use Rattle.fut_base.specs.Dag.{Among, last_of, block_of}
+use Rattle.fut_base.specs.Dag.{Among, ends, last_of, block_of}
 use Rattle.fut_base.specs.Orders.{is_in}
 use Rattle.fut_base.specs.Sound.{IsSound, current, next_task, next_strand, future_of, value_of}
 use Rattle.fut_syntax.specs.Trees as tree
@@ -85,3 +85,33 @@ abbrev pub WholeLeavesEach : Type 0
 WholeLeavesEach =
     (P : tree.Program) (h : List Event) (m : Machine) (v : ℕ) → Leads P (opening P) h m → EachEnded m.tasks → v < m.strands
     → count_by (leaves_strand v) h ≡ 1
+
+-- an event is the end of a task
+abbrev pub ends_task : ℕ → Event → Bool
+ends_task t e = ends e.action && (e.task == t)
+
+-- at most one event ends a task
+abbrev pub EndedOnce : Type 0
+EndedOnce = (P : tree.Program) (h : List Event) (m : Machine) (t : ℕ) → Leads P (opening P) h m → count_by (ends_task t) h ≤ 1
+
+-- the end of a task with a value
+abbrev pub end_at : ℕ → ℕ → Value → Event
+end_at t strand value = record { task = t; strand = strand; action = Ends value }
+
+-- the value of a task is that of its end
+abbrev pub ValueWasEnded : Type 0
+ValueWasEnded =
+    (P : tree.Program) (h : List Event) (m : Machine) (t : ℕ) (r : Running) (value : Value) → Leads P (opening P) h m → slice_get m.tasks t ≡ Some r → r.value ≡ Some value
+    → (strand : ℕ) × Among (end_at t strand value) h
+
+-- a task ended with a value among the first events of a history, and ends nowhere else in it
+pub record EndedBefore (before whole : List Event) (t : ℕ) (value : Value) : Type 0 where
+  pub strand : ℕ
+  pub earlier : Among (end_at t strand value) before
+  pub once : count_by (ends_task t) whole ≡ 1
+
+-- a get of a future stands after the one end of the future's task, and has its value
+abbrev pub GetsFollowEnds : Type 0
+GetsFollowEnds =
+    (P : tree.Program) (before : List Event) (e : Event) (later : List Event) → IsLegal P (before ++ e ∷ later) → (future : ℕ) (value : Value) (strand : ℕ) → e.action ≡ Gets future value strand
+    → EndedBefore before (before ++ e ∷ later) future value

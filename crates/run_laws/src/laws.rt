@@ -1,5 +1,5 @@
 //! Laws of legal histories.
-ghost use Rattle.run_laws.specs.Laws.{BegunOnce, LeftForGood, LeftOnce, LegalIsSound, MirrorsStructure, WholeLeavesEach};
+ghost use Rattle.run_laws.specs.Laws.{BegunOnce, EndedOnce, GetsFollowEnds, LeftForGood, LeftOnce, LegalIsSound, MirrorsStructure, ValueWasEnded, WholeLeavesEach};
 
 /// The tasks and the next numbers of the machine are what the functions on the structure give.
 pub fn mirrors()
@@ -29,4 +29,19 @@ pub fn left_once()
 /// In a whole history each strand is left by one entry.
 pub fn whole_leaves_each()
     ensures { WholeLeavesEach }
+{}
+
+/// Each task ends at most once.
+pub fn ended_once()
+    ensures { EndedOnce }
+{}
+
+/// The value of a task is that of an end of the task.
+pub fn value_was_ended()
+    ensures { ValueWasEnded }
+{}
+
+/// A get of a future stands after the one end of its task, and has its value.
+pub fn gets_follow_ends()
+    ensures { GetsFollowEnds }
 {}
