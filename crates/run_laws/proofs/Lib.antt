@@ -5,3 +5,5 @@ pub mod Holding
 pub mod Sound
 pub mod Once
 pub mod Ended
+pub mod Waits
+pub mod Stuck

@@ -293,7 +293,7 @@ pub record Live (m : Machine) (s : ℕ) : Type 0 where
   pub running : state.value ≡ None
   pub stands : state.strand ≡ s
 
-ended_at : (rs : List Running) (t : ℕ) (r : Running) → EachEnded rs → slice_get rs t ≡ Some r → IsSome r.value
+pub ended_at : (rs : List Running) (t : ℕ) (r : Running) → EachEnded rs → slice_get rs t ≡ Some r → IsSome r.value
 ended_at [] t r h g = cc
 ended_at (q ∷ rs) zero r h g = let e : q ≡ r = cc in subst (λ (z : Running). IsSome z.value) e h.0
 ended_at (q ∷ rs) (suc t) r h g = ended_at rs t r h.1 g

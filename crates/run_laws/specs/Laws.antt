@@ -1,15 +1,20 @@
 -- Laws of legal histories. Lists of events called `past` have the newest event first.
-use Rattle.std.specs.Prelude.{◌≡◌, ◌≢◌, ℕ, ◌<◌, ◌≤◌, Bool, true, ◌==◌, ◌&&◌, List, [], ◌∷◌, ◌++◌, length, count_by, reverse, slice_get, Some, None, option_map}
+use Rattle.std.specs.Prelude.{◌≡◌, ◌≢◌, ℕ, ◌<◌, ◌≤◌, Bool, true, ◌==◌, ◌&&◌, List, [], ◌∷◌, ◌++◌, length, count_by, reverse, slice_get, Some, None, option_map, ◌⊎◌}
 use Rattle.fut_base.specs.declared.record.Value.{Value}
+use Rattle.fut_base.specs.declared.record.Value.TheVariants.{Fut}
 use Rattle.fut_base.specs.declared.event.Event.{Event}
 use Rattle.fut_base.specs.declared.event.Action.{Action}
 use Rattle.fut_base.specs.declared.event.Action.TheVariants.{Spawns, Creates, Syncs, Gets, Ends}
 use Rattle.fut_base.specs.Events.{structural, structure_of}
 use Rattle.fut_base.specs.Dag.{Among, ends, last_of, block_of}
-use Rattle.fut_base.specs.Orders.{is_in}
+use Rattle.fut_base.specs.Orders.{is_in, stands_before, english_of}
 use Rattle.fut_base.specs.Sound.{IsSound, current, next_task, next_strand, future_of, value_of}
 use Rattle.fut_syntax.specs.Trees as tree
-use Rattle.task_machine.specs.Machine.{Machine, Running, opening, Leads, IsLegal, EachEnded}
+use Rattle.task_machine.specs.Variables.{Slot, Variables, values_of}
+use Rattle.task_machine.specs.Texts.{CellArray, cell_arrays}
+use Rattle.task_machine.specs.State.{TaskState, NoWish, wish_of}
+use Rattle.task_machine.specs.Runs.{Steps, StandsAt, IsOutOfSteps}
+use Rattle.task_machine.specs.Machine.{Machine, Running, opening, Leads, IsLegal, EachEnded, IsAllowed, IsRunning}
 
 -- the structure of a history, newest event first
 abbrev pub past_of : List Event → List Event
@@ -115,3 +120,62 @@ abbrev pub GetsFollowEnds : Type 0
 GetsFollowEnds =
     (P : tree.Program) (before : List Event) (e : Event) (later : List Event) → IsLegal P (before ++ e ∷ later) → (future : ℕ) (value : Value) (strand : ℕ) → e.action ≡ Gets future value strand
     → EndedBefore before (before ++ e ∷ later) future value
+
+-- a variable has the handle of a future, an array variable in one of its elements
+abbrev pub HasHandle : Variables → ℕ → Type 0
+HasHandle vars future = (v : List ℕ × Slot) × Among v vars × Among (Fut future) (values_of v.1)
+
+-- a task knows a future: its handle is in a variable, now or after local steps, or the task ended with it
+abbrev pub Knows : Running → ℕ → Type 0
+Knows r future = ((n : ℕ) × (s : TaskState) × Steps n r.state s × HasHandle s.vars future) ⊎ (r.value ≡ Some (Fut future))
+
+-- a task exists, and its strand stands before another one in English order
+pub record StandsBefore (h : List Event) (m : Machine) (t strand : ℕ) : Type 0 where
+  pub task : Running
+  pub present : slice_get m.tasks t ≡ Some task
+  pub before : stands_before task.strand strand (english_of (structure_of h)) ≡ true
+
+-- the task of a future, which began that future, stands before
+pub record IsFutureBefore (h : List Event) (m : Machine) (future strand : ℕ) : Type 0 where
+  pub stands : StandsBefore h m future strand
+  pub root : stands.task.future ≡ future
+
+-- the task of each future that a task knows stands before it
+abbrev pub HandlesStandBefore : Type 0
+HandlesStandBefore =
+    (P : tree.Program) (h : List Event) (m : Machine) (t : ℕ) (r : Running) → Leads P (opening P) h m → slice_get m.tasks t ≡ Some r
+    → (future : ℕ) → Knows r future → IsFutureBefore h m future r.strand
+
+-- each child of a task's block stands before it
+abbrev pub ChildrenStandBefore : Type 0
+ChildrenStandBefore =
+    (P : tree.Program) (h : List Event) (m : Machine) (t : ℕ) (r : Running) → Leads P (opening P) h m → slice_get m.tasks t ≡ Some r
+    → (child : ℕ) → Among child r.block → StandsBefore h m child r.strand
+
+-- a task is the first, in English order, of those that have not ended
+pub record IsFirst (h : List Event) (m : Machine) (t : ℕ) (r : Running) : Type 0 where
+  pub running : IsRunning m t r
+  pub least : (u : ℕ) (q : Running) → IsRunning m u q → (u ≡ t) ⊎ (stands_before r.strand q.strand (english_of (structure_of h)) ≡ true)
+
+-- where not all tasks have ended there is such a task
+abbrev pub FirstExists : Type 0
+FirstExists =
+    (P : tree.Program) (h : List Event) (m : Machine) → Leads P (opening P) h m → (EachEnded m.tasks → ⊥)
+    → (t : ℕ) × (r : Running) × IsFirst h m t r
+
+-- and only one
+abbrev pub FirstIsOne : Type 0
+FirstIsOne =
+    (P : tree.Program) (h : List Event) (m : Machine) (t u : ℕ) (r q : Running) → Leads P (opening P) h m → IsFirst h m t r → IsFirst h m u q
+    → t ≡ u
+
+-- each array of cells of the text has a cell
+abbrev pub HasCells : tree.Program → Type 0
+HasCells P = (a : CellArray) → Among a (cell_arrays P) → 0 < a.length
+
+-- the first task is out of steps, or its wish is allowed, if it has one
+abbrev pub NoneIsStuck : Type 0
+NoneIsStuck =
+    (P : tree.Program) (h : List Event) (m : Machine) (t : ℕ) (r : Running) → Leads P (opening P) h m → HasCells P → IsFirst h m t r
+    → ((s : TaskState) → StandsAt r.state s → wish_of P s ≢ NoWish)
+    → IsOutOfSteps r.state ⊎ IsAllowed P m t

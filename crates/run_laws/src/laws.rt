@@ -1,5 +1,5 @@
 //! Laws of legal histories.
-ghost use Rattle.run_laws.specs.Laws.{BegunOnce, EndedOnce, GetsFollowEnds, LeftForGood, LeftOnce, LegalIsSound, MirrorsStructure, ValueWasEnded, WholeLeavesEach};
+ghost use Rattle.run_laws.specs.Laws.{BegunOnce, ChildrenStandBefore, EndedOnce, FirstExists, FirstIsOne, GetsFollowEnds, HandlesStandBefore, LeftForGood, LeftOnce, LegalIsSound, MirrorsStructure, NoneIsStuck, ValueWasEnded, WholeLeavesEach};
 
 /// The tasks and the next numbers of the machine are what the functions on the structure give.
 pub fn mirrors()
@@ -44,4 +44,29 @@ pub fn value_was_ended()
 /// A get of a future stands after the one end of its task, and has its value.
 pub fn gets_follow_ends()
     ensures { GetsFollowEnds }
+{}
+
+/// The task of each future that a task knows stands before it in English order.
+pub fn handles_stand_before()
+    ensures { HandlesStandBefore }
+{}
+
+/// Each child of a task's block stands before it in English order.
+pub fn children_stand_before()
+    ensures { ChildrenStandBefore }
+{}
+
+/// Where not all tasks have ended, one of those that have not is the first in English order.
+pub fn first_exists()
+    ensures { FirstExists }
+{}
+
+/// There is one such task.
+pub fn first_is_one()
+    ensures { FirstIsOne }
+{}
+
+/// That task is out of steps, or may go on: no history is stuck.
+pub fn none_is_stuck()
+    ensures { NoneIsStuck }
 {}
