@@ -1,5 +1,5 @@
 -- Each task ends once, and a get stands after the end that it waited for.
-use Rattle.std.proofs.Common.{◌≡◌, ◌≢◌, ℕ, zero, suc, ◌+◌, ◌≤◌, Bool, true, false, ◌==◌, List, [], ◌∷◌, ◌++◌, length, ◌⊎◌, inl, inr, refl, sym, ap, ◌∙◌, subst, arith}
+use Rattle.std.proofs.Common.{◌≡◌, ◌≢◌, ℕ, ◌+◌, ◌≤◌, Bool, true, false, ◌==◌, List, [], ◌∷◌, ◌++◌, ◌⊎◌, inl, inr, refl, sym, ap, ◌∙◌, subst, arith}
 use Rattle.std.specs.Prelude.{◌&&◌, Option, Some, None, IsSome, is_some, count_by, slice_get}
 use Rattle.fut_base.specs.declared.record.Value.{Value}
 use Rattle.fut_base.specs.declared.event.Event.{Event}
@@ -12,8 +12,7 @@ use Rattle.task_machine.specs.Texts.{main_of}
 use Rattle.task_machine.specs.Machine.{Machine, Running, opening, begins, acted, child_of, ended_with, Permits, IsStep, Leads}
 use Rattle.task_machine.proofs.Leading.{split}
 use Rattle.task_machine.proofs.Making.{acting_task, others_stay}
-use Rattle.task_machine.proofs.Places.{Behind}
-use Rattle.strand_laws.proofs.Places.{by_eq, same_or_not, among_left}
+use Rattle.strand_laws.proofs.Places.{by_eq, among_left}
 use Rattle.strand_laws.proofs.Links.{ev}
 use Rattle.run_laws.specs.Laws.{ends_task, EndedOnce, ValueWasEnded, GetsFollowEnds}
 use Rattle.run_laws.proofs.Mirrored.{only, tested}
@@ -44,8 +43,8 @@ ends_not t e ne = elim (tested (ends_task t e)) [ inl st ↦ absurd (ne (ends_is
 done_next : (P : tree.Program) (m : Machine) (e : Event) (n : Machine) (t : ℕ) → IsStep P m e n → IsDone m t → (e.task ≢ t) × IsDone n t
 done_next P m e n t x d =
     let ne : e.task ≢ t = λ k. (
-        let same : x.task ≡ d.task = some_same x.task d.task (sym x.present ∙ ap (λ z. slice_get m.tasks z) k ∙ d.present) in
-        not_both d.task.value (sym (ap (λ (z : Running). z.value) same) ∙ x.running) d.done) in
+    let same : x.task ≡ d.task = some_same x.task d.task (sym x.present ∙ ap (λ z. slice_get m.tasks z) k ∙ d.present) in
+    not_both d.task.value (sym (ap (λ (z : Running). z.value) same) ∙ x.running) d.done) in
     (ne, record { task = d.task; present = others_stay P m e n t d.task x (λ k. ne (sym k)) d.present; done = d.done })
 
 done_rest : (P : tree.Program) (m : Machine) (h : List Event) (n : Machine) (t : ℕ) → Leads P m h n → IsDone m t → count_by (ends_task t) h ≡ 0

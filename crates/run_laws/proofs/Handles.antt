@@ -1,6 +1,6 @@
 -- What holds of the values in a task's variables holds of all that the task makes of them.
-use Rattle.std.proofs.Common.{◌≡◌, ℕ, zero, suc, Bool, true, false, List, [], ◌∷◌, ◌++◌, length, drop, take, replicate, ◌⊎◌, inl, inr, refl, sym, ap, ◌∙◌, subst, if◌then◌else◌}
-use Rattle.std.specs.Prelude.{ℤ, pos, Option, Some, None, slice_get, slice_set, slice_index_or, flat_map, bytes_eq}
+use Rattle.std.proofs.Common.{◌≡◌, ℕ, zero, suc, Bool, true, false, List, [], ◌∷◌, ◌++◌, length, drop, take, replicate, refl, ◌∙◌, subst, if◌then◌else◌}
+use Rattle.std.specs.Prelude.{ℤ, pos, Option, Some, None, slice_set, slice_index_or, bytes_eq}
 use Rattle.fut_base.specs.declared.record.Value.{Value}
 use Rattle.fut_base.specs.declared.record.Value.TheVariants.{Int, Fut}
 use Rattle.fut_base.specs.declared.event.Action.{Action}
@@ -9,7 +9,7 @@ use Rattle.fut_syntax.specs.Trees as tree
 use Rattle.task_machine.specs.Values.{is_zero, index_of}
 use Rattle.task_machine.specs.Variables.{Slot, One, Many, Variables, slot_at, put, value_of, values_of, filled, refilled, signed, slot_in, operand_in, primary_in, value_in, number_in, values_in, size_of, taken, bound}
 use Rattle.task_machine.specs.Texts.{TaskText, task_at, task_number, cell_at, stmts_of, else_of}
-use Rattle.task_machine.specs.State.{TaskState, Wish, ToRead, ToWrite, ToSpawn, ToCreate, ToSync, ToGet, ToEnd, NoWish, started, start_state, goes_on, set_by, element_of, local_value, init_step, store_step, step_by, first_step, local_step, read_of, write_of, spawn_of, create_of, get_of, end_of, wish_of_init, wish_by, first_wish, wish_of, receives, passes, after_sync, effect_of}
+use Rattle.task_machine.specs.State.{TaskState, Wish, ToSpawn, ToCreate, ToGet, ToEnd, started, start_state, goes_on, set_by, element_of, local_value, init_step, store_step, step_by, first_step, read_of, write_of, spawn_of, create_of, get_of, end_of, wish_of_init, wish_by, first_wish, wish_of, receives, effect_of}
 use Rattle.task_machine.specs.Runs.{Steps, StandsAt}
 
 -- V holds of each value

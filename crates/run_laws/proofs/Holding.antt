@@ -1,6 +1,6 @@
 -- The handles in a task's variables are held by the task in the structure.
-use Rattle.std.proofs.Common.{◌≡◌, ◌≢◌, ℕ, zero, suc, ◌+◌, ◌<◌, ◌≤◌, Bool, true, false, ◌==◌, ◌||◌, if◌then◌else◌, List, [], ◌∷◌, ◌++◌, length, ◌⊎◌, inl, inr, refl, sym, ap, ◌∙◌, subst, arith}
-use Rattle.std.specs.Prelude.{◌&&◌, ℤ, pos, Option, Some, None, slice_get}
+use Rattle.std.proofs.Common.{◌≡◌, ℕ, ◌<◌, Bool, true, false, ◌==◌, ◌||◌, List, [], ◌∷◌, ◌++◌, length, inl, inr, refl, sym, ◌∙◌, subst, arith}
+use Rattle.std.specs.Prelude.{◌&&◌, ℤ, Option, Some, None, slice_get}
 use Rattle.fut_base.specs.declared.record.Value.{Value}
 use Rattle.fut_base.specs.declared.record.Value.TheVariants.{Int, Fut}
 use Rattle.fut_base.specs.declared.event.Event.{Event}
@@ -11,15 +11,15 @@ use Rattle.fut_base.specs.Dag.{block_after}
 use Rattle.fut_base.specs.Sound.{holds_by, holds_handle, is_handle, has_handle, HoldsValue}
 use Rattle.fut_syntax.specs.Trees as tree
 use Rattle.task_machine.specs.Texts.{TaskText, main_of, task_at}
-use Rattle.task_machine.specs.State.{TaskState, Wish, ToSpawn, ToCreate, started, start_state, receives, effect_of, wish_of, Answers}
+use Rattle.task_machine.specs.State.{TaskState, started, receives, effect_of}
 use Rattle.task_machine.specs.Runs.{StandsAt}
-use Rattle.task_machine.specs.Machine.{Machine, Running, opening, begins, after, acted, child_of, Permits, IsStep, Leads}
+use Rattle.task_machine.specs.Machine.{Machine, Running, opening, begins, after, acted, child_of, Permits, IsStep}
 use Rattle.task_machine.proofs.Places.{Behind, get_below}
 use Rattle.strand_laws.proofs.Places.{by_eq}
 use Rattle.strand_laws.proofs.Links.{if_self, if_off, ev}
-use Rattle.run_laws.proofs.Pasts.{Came, came, kept_of, get_after}
+use Rattle.run_laws.proofs.Pasts.{Came, kept_of, get_after}
 use Rattle.run_laws.proofs.Mirrored.{NotMade, not_made, only, tested, kept_on, kept_off}
-use Rattle.run_laws.proofs.Handles.{Each, InAll, HandsOut, brings, each_more, all_more, start_all, stands_all, wish_all, effect_all}
+use Rattle.run_laws.proofs.Handles.{Each, InAll, brings, each_more, all_more, start_all, stands_all, effect_all}
 
 abbrev pub is_filled : List ℕ → Bool
 is_filled [] = false
@@ -118,11 +118,10 @@ Given args v = (f : ℕ) → is_handle f v ≡ true → has_handle f args ≡ tr
 
 given : (args : List Value) → Each (Given args) args
 given [] = tt
-given (v ∷ args) =
-    (
-      (λ f h. or_left (is_handle f v) (has_handle f args) h),
-      each_more (Given args) (Given (v ∷ args)) (λ w g f h. or_right (is_handle f v) (has_handle f args) (g f h)) args (given args),
-    )
+given (v ∷ args) = (
+  (λ f h. or_left (is_handle f v) (has_handle f args) h),
+  each_more (Given args) (Given (v ∷ args)) (λ w g f h. or_right (is_handle f v) (has_handle f args) (g f h)) args (given args),
+)
 
 spawn_given : (past : List Event) (by s code child kid cont : ℕ) (args : List Value) (v : Value) → Given args v → HoldsValue (ev by s (Spawns code child kid cont args) ∷ past) child v
 spawn_given past by s code child kid cont args (Int z) g = tt

@@ -7,3 +7,4 @@ pub mod Once
 pub mod Ended
 pub mod Waits
 pub mod Stuck
+pub mod Late

@@ -11,12 +11,12 @@ use Rattle.fut_base.specs.Sound.{current, current_by, next_task, next_strand, ta
 use Rattle.fut_syntax.specs.Trees as tree
 use Rattle.task_machine.specs.Texts.{main_of}
 use Rattle.task_machine.specs.State.{TaskState}
-use Rattle.task_machine.specs.Machine.{Machine, Running, opening, begins, after, acted, child_of, strand_after, Permits, IsStep, Leads}
+use Rattle.task_machine.specs.Machine.{Machine, Running, opening, begins, after, acted, child_of, strand_after, Permits, IsStep}
 use Rattle.task_machine.proofs.Places.{Behind, get_below}
 use Rattle.task_machine.proofs.Making.{task_count}
 use Rattle.strand_laws.proofs.Places.{by_eq}
 use Rattle.strand_laws.proofs.Links.{if_self, if_off, ev}
-use Rattle.run_laws.specs.Laws.{IsMirrored, IsUnborn, Mirrors, MirrorsStructure, past_of}
+use Rattle.run_laws.specs.Laws.{IsMirrored, IsUnborn, Mirrors, MirrorsStructure}
 use Rattle.run_laws.proofs.Pasts.{Came, came, kept_of, past_is, get_after}
 
 -- the number is not that of the task that an action makes

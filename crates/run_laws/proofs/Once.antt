@@ -1,7 +1,7 @@
 -- Each strand is begun once, and left once.
 use Rattle.std.proofs.Common.{◌≡◌, ◌≢◌, ℕ, zero, suc, ◌+◌, ◌<◌, ◌≤◌, Bool, true, false, cond, ◌==◌, ◌||◌, List, [], ◌∷◌, ◌++◌, length, ◌⊎◌, inl, inr, refl, sym, ap, ◌∙◌, subst, arith}
 use Rattle.std.proofs.lemmas.List.Sums.{sum_by-cons}
-use Rattle.std.specs.Prelude.{◌&&◌, Option, Some, None, IsSome, is_some, count_by, reverse, slice_get}
+use Rattle.std.specs.Prelude.{◌&&◌, Option, Some, None, IsSome, is_some, count_by, slice_get}
 use Rattle.fut_base.specs.declared.record.Value.{Value}
 use Rattle.fut_base.specs.declared.event.Event.{Event}
 use Rattle.fut_base.specs.declared.event.Action.{Action}
@@ -12,7 +12,7 @@ use Rattle.fut_base.specs.Orders.{is_in}
 use Rattle.fut_base.specs.Sound.{strands_by, value_by}
 use Rattle.fut_syntax.specs.Trees as tree
 use Rattle.task_machine.specs.Texts.{main_of}
-use Rattle.task_machine.specs.Machine.{Machine, Running, opening, begins, after, acted, child_of, strand_after, Permits, IsStep, Leads, EachEnded}
+use Rattle.task_machine.specs.Machine.{Machine, Running, opening, begins, acted, child_of, strand_after, Permits, IsStep, Leads, EachEnded}
 use Rattle.task_machine.proofs.Leading.{split, join}
 use Rattle.task_machine.proofs.Making.{strands_rise, strands_were_made, acting_task, others_stay, child_comes}
 use Rattle.task_machine.proofs.Places.{Behind}
@@ -21,7 +21,7 @@ use Rattle.strand_laws.proofs.Worlds.{lt_or_le}
 use Rattle.strand_laws.proofs.Frames.{own_of}
 use Rattle.strand_laws.proofs.Links.{linked, ev}
 use Rattle.strand_laws.proofs.Steps.{inv}
-use Rattle.run_laws.specs.Laws.{past_of, begun_by, begins_strand, leaves_strand, BegunOnce, LeftOnce, LeftForGood, WholeLeavesEach}
+use Rattle.run_laws.specs.Laws.{past_of, begun_by, begins_strand, leaves_strand, BegunOnce, LeftOnce, LeftForGood, StrandsAreOwn, WholeLeavesEach}
 use Rattle.run_laws.proofs.Pasts.{get_after}
 use Rattle.run_laws.proofs.Mirrored.{only, tested, mirrors}
 use Rattle.run_laws.proofs.Sound.{sound_past}
@@ -146,6 +146,9 @@ apart P h m l =
           sym ((inv (past_of h) sp).each t a.0).owns ∙ ap (own_of (past_of h)) (a.1 ∙ e ∙ sym b.1) ∙ ((inv (past_of h) sp).each u b.0).owns);
     }
 
+pub strands_are_own : StrandsAreOwn
+strands_are_own P h m t u r q l g g' e = (apart P h m l).own t u r q g g' e
+
 -- no task that runs stands on a strand that was made
 pub record Dead (m : Machine) (s : ℕ) : Type 0 where
   pub made : s < m.strands
@@ -261,7 +264,7 @@ count_none v [] f = refl
 count_none v (e ∷ h) f = count_off (leaves_strand v) e h (leaves_not v e (f e (inl refl))) ∙ count_none v h (λ d a. f d (inr a))
 
 -- a history, as one event behind another
-shifted : (P : tree.Program) (before : List Event) (m : Machine) (e : Event) (next : Machine) → Leads P (opening P) before m → IsStep P m e next → Leads P (opening P) (before ++ e ∷ []) next
+pub shifted : (P : tree.Program) (before : List Event) (m : Machine) (e : Event) (next : Machine) → Leads P (opening P) before m → IsStep P m e next → Leads P (opening P) (before ++ e ∷ []) next
 shifted P before m e next l step = join P (opening P) before (e ∷ []) next m l (next, step, refl)
 
 left_from : (P : tree.Program) (before h : List Event) (m n : Machine) (v : ℕ) → Leads P (opening P) before m → Leads P m h n → count_by (leaves_strand v) h ≤ 1

@@ -1,12 +1,12 @@
 -- Histories with the newest event first.
-use Rattle.std.proofs.Common.{◌≡◌, ◌≢◌, ℕ, ◌+◌, List, [], ◌∷◌, ◌++◌, length, ◌⊎◌, inl, inr, refl, sym, ap, ◌∙◌, subst, append_assoc, append-nil}
+use Rattle.std.proofs.Common.{◌≡◌, ◌≢◌, ℕ, List, [], ◌∷◌, ◌++◌, ◌⊎◌, inl, inr, refl, sym, ap, ◌∙◌, subst, append_assoc, append-nil}
 use Rattle.std.proofs.lemmas.List.{reverse-append}
 use Rattle.std.specs.Prelude.{reverse, filter, Some, slice_get, slice_set}
 use Rattle.fut_base.specs.declared.event.Event.{Event}
-use Rattle.fut_base.specs.Events.{structural, structure_of}
+use Rattle.fut_base.specs.Events.{structural}
 use Rattle.fut_syntax.specs.Trees as tree
 use Rattle.task_machine.specs.Machine.{Machine, opening, IsStep, Leads}
-use Rattle.task_machine.proofs.Places.{Behind, get_set_append, get_set_same, get_below}
+use Rattle.task_machine.proofs.Places.{Behind, get_set_append, get_set_same}
 use Rattle.strand_laws.proofs.Places.{same_or_not}
 use Rattle.strand_laws.proofs.Structure.{reverse_filter}
 use Rattle.run_laws.specs.Laws.{past_of}

@@ -1,21 +1,20 @@
 -- The structure of a legal history is sound.
-use Rattle.std.proofs.Common.{◌≡◌, ℕ, ◌+◌, Bool, true, false, List, [], ◌∷◌, length, inl, inr, refl, sym, ap, ◌∙◌, subst, arith}
+use Rattle.std.proofs.Common.{◌≡◌, ℕ, ◌+◌, Bool, true, false, List, [], ◌∷◌, inl, inr, refl, sym, ap, ◌∙◌, subst}
 use Rattle.std.specs.Prelude.{Option, Some, None, IsSome, is_some, option_map, option_and_then, reverse, slice_get}
 use Rattle.fut_base.specs.declared.record.Value.{Value}
-use Rattle.fut_base.specs.declared.record.Value.TheVariants.{Fut}
 use Rattle.fut_base.specs.declared.event.Event.{Event}
 use Rattle.fut_base.specs.declared.event.Action.{Action}
 use Rattle.fut_base.specs.declared.event.Action.TheVariants.{Reads, Writes, Spawns, Creates, Syncs, Gets, Ends}
 use Rattle.fut_base.specs.Events.{structural}
 use Rattle.fut_base.specs.Dag.{last_of, block_of}
-use Rattle.fut_base.specs.Sound.{AllEnded, HoldsValue, HoldsValues, IsSound, IsSoundPast, MayAct, MayFollow, value_of}
+use Rattle.fut_base.specs.Sound.{AllEnded, HoldsValue, HoldsValues, IsSoundPast, MayAct, MayFollow, value_of}
 use Rattle.fut_syntax.specs.Trees as tree
-use Rattle.task_machine.specs.State.{TaskState, Wish, ToSpawn, ToCreate, ToGet, ToEnd, wish_of, Answers}
+use Rattle.task_machine.specs.State.{Wish, ToEnd, wish_of, Answers}
 use Rattle.task_machine.specs.Machine.{Machine, Running, opening, ended_with, AllHaveEnded, Permits, IsStep, Leads}
 use Rattle.run_laws.specs.Laws.{Mirrors, LegalIsSound, past_of}
 use Rattle.run_laws.proofs.Pasts.{Came, came, kept_of, past_is}
 use Rattle.run_laws.proofs.Mirrored.{tested, kept_on, kept_off, came_mirrors}
-use Rattle.run_laws.proofs.Handles.{Each, InAll, HandsOut, stands_all, wish_all}
+use Rattle.run_laws.proofs.Handles.{Each, HandsOut, stands_all, wish_all}
 use Rattle.run_laws.proofs.Holding.{Holder, AllHold, is_filled, numbers, came_holds}
 
 -- a task that the machine has with a value

@@ -1,6 +1,6 @@
 -- The first task that has not ended is out of steps, or may go on.
-use Rattle.std.proofs.Common.{◌≡◌, ◌≢◌, ℕ, zero, suc, ◌+◌, ◌-◌, ◌%◌, ◌<◌, ◌≤◌, Bool, true, false, if◌then◌else◌, List, [], ◌∷◌, length, replicate, ◌⊎◌, inl, inr, refl, sym, ap, ◌∙◌, subst, arith}
-use Rattle.std.specs.Prelude.{ℤ, pos, negsuc, Option, Some, None, IsSome, is_some, option_map, option_and_then, bytes_eq, slice_get, slice_set}
+use Rattle.std.proofs.Common.{◌≡◌, ◌≢◌, ℕ, zero, suc, ◌+◌, ◌%◌, ◌<◌, ◌≤◌, Bool, true, false, if◌then◌else◌, List, [], ◌∷◌, length, replicate, ◌⊎◌, inl, inr, refl, sym, ap, ◌∙◌, subst, arith}
+use Rattle.std.specs.Prelude.{ℤ, pos, negsuc, Option, Some, None, IsSome, is_some, option_map, option_and_then, bytes_eq, slice_get}
 use Rattle.std.proofs.lemmas.Nat.{mod_below}
 use Rattle.std.proofs.Math.ListN.{length-set}
 use Rattle.fut_base.specs.declared.record.Value.{Value}
@@ -8,17 +8,17 @@ use Rattle.fut_base.specs.declared.record.Value.TheVariants.{Int, Fut}
 use Rattle.fut_base.specs.declared.event.Event.{Event}
 use Rattle.fut_base.specs.declared.event.Action.{Action}
 use Rattle.fut_base.specs.declared.event.Action.TheVariants.{Reads, Writes, Spawns, Creates, Syncs, Gets, Ends}
-use Rattle.fut_base.specs.Dag.{Among, block_of, last_of}
+use Rattle.fut_base.specs.Dag.{Among, block_of}
 use Rattle.fut_base.specs.Orders.{english_past, stands_before}
-use Rattle.fut_base.specs.Sound.{IsSoundPast, current, next_strand, next_task, holds_handle, HoldsValue}
+use Rattle.fut_base.specs.Sound.{next_strand, next_task, holds_handle, HoldsValue}
 use Rattle.fut_syntax.specs.Trees as tree
 use Rattle.fut_syntax.specs.Small.{items_of}
 use Rattle.task_machine.specs.Values.{index_of}
-use Rattle.task_machine.specs.Texts.{CellArray, arrays_from, cell_arrays, cell_at, cell_count, count_cells, find_cell, task_number}
+use Rattle.task_machine.specs.Texts.{CellArray, arrays_from, cell_at, cell_count, count_cells, find_cell, task_number}
 use Rattle.task_machine.specs.Variables.{Variables, number_in, slot_at, value_of, value_in, values_in}
 use Rattle.task_machine.specs.State.{TaskState, Wish, ToRead, ToWrite, ToSpawn, ToCreate, ToSync, ToGet, ToEnd, NoWish, local_step, read_of, write_of, spawn_of, create_of, get_of, end_of, wish_of_init, wish_by, first_wish, wish_of, Answers}
-use Rattle.task_machine.specs.Runs.{Steps, StandsWithin, GoesOn, IsMost, StandsAt, IsOutOfSteps}
-use Rattle.task_machine.specs.Machine.{Machine, Running, opening, after, cells_after, ended_with, AllHaveEnded, EachEnded, IsAllowed, IsRunning, IsStep, Leads, Permits}
+use Rattle.task_machine.specs.Runs.{StandsWithin, GoesOn, IsMost, StandsAt, IsOutOfSteps}
+use Rattle.task_machine.specs.Machine.{Machine, Running, opening, after, cells_after, ended_with, AllHaveEnded, EachEnded, IsAllowed, IsRunning, Leads, Permits}
 use Rattle.task_machine.proofs.Making.{children_come_later}
 use Rattle.strand_laws.specs.Laws.{IsLeast}
 use Rattle.strand_laws.proofs.Held.{is_root}
@@ -31,7 +31,7 @@ use Rattle.run_laws.specs.Laws.{Mirrors, past_of, HasCells, IsFirst, FirstExists
 use Rattle.run_laws.proofs.Mirrored.{mirrors}
 use Rattle.run_laws.proofs.Handles.{HandsOut, stands_all, wish_all}
 use Rattle.run_laws.proofs.Holding.{Holder, numbers}
-use Rattle.run_laws.proofs.Once.{Apart, apart, ended_at, not_both}
+use Rattle.run_laws.proofs.Once.{apart, ended_at, not_both}
 use Rattle.run_laws.proofs.Sound.{sound_past}
 use Rattle.run_laws.proofs.Waits.{all_hold, get_some}
 
@@ -215,13 +215,12 @@ module _ (P : tree.Program) (h : List Event) (m : Machine) (l : Leads P (opening
 
   -- an event that answers the wish and may be done is a step
   goes : (t : ℕ) (r : Running) (s : TaskState) (a : Action) → IsRunning m t r → StandsAt r.state s → Answers (wish_of P s) a → Permits m r a → IsAllowed P m t
-  goes t r s a run at is may =
-      (
-        ev t r.strand a,
-        refl,
-        after P m (ev t r.strand a) r s,
-        record { task = r; stop = s; present = run.0; running = run.1; strand = refl; stands = at; answers = is; permits = may; gives = refl },
-      )
+  goes t r s a run at is may = (
+    ev t r.strand a,
+    refl,
+    after P m (ev t r.strand a) r s,
+    record { task = r; stop = s; present = run.0; running = run.1; strand = refl; stands = at; answers = is; permits = may; gives = refl },
+  )
 
   module _ (f : HasCells P) (t : ℕ) (r : Running) (x : IsFirst h m t r) (s : TaskState) (at : StandsAt r.state s) where
     out : HandsOut (HoldsValue (past_of h) t) s.is_open (wish_of P s)

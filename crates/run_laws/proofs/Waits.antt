@@ -1,11 +1,11 @@
 -- The tasks that a task may wait for stand before it in English order.
-use Rattle.std.proofs.Common.{◌≡◌, ◌≢◌, ℕ, zero, suc, ◌+◌, ◌<◌, ◌≤◌, Bool, true, List, [], ◌∷◌, length, ◌⊎◌, inl, inr, refl, sym, ap, ◌∙◌, subst, arith}
+use Rattle.std.proofs.Common.{◌≡◌, ℕ, zero, suc, ◌<◌, true, List, [], ◌∷◌, length, ◌⊎◌, inl, inr, refl, sym, ◌∙◌, subst, arith}
 use Rattle.std.specs.Prelude.{Some, reverse, slice_get}
 use Rattle.fut_base.specs.declared.record.Value.{Value}
 use Rattle.fut_base.specs.declared.record.Value.TheVariants.{Fut}
 use Rattle.fut_base.specs.declared.event.Event.{Event}
 use Rattle.fut_base.specs.Dag.{Among, block_of}
-use Rattle.fut_base.specs.Sound.{IsSoundPast, HoldsValue, holds_handle, next_task}
+use Rattle.fut_base.specs.Sound.{HoldsValue, holds_handle, next_task}
 use Rattle.fut_syntax.specs.Trees as tree
 use Rattle.task_machine.specs.Variables.{Slot, Variables, values_of}
 use Rattle.task_machine.specs.Machine.{Machine, Running, opening, Leads}
@@ -13,8 +13,8 @@ use Rattle.task_machine.proofs.Making.{children_come_later}
 use Rattle.strand_laws.proofs.Early.{waited_stands_before}
 use Rattle.strand_laws.proofs.Held.{is_root, value_held}
 use Rattle.strand_laws.proofs.Links.{linked}
-use Rattle.run_laws.specs.Laws.{Mirrors, past_of, HasHandle, Knows, IsFutureBefore, StandsBefore, HandlesStandBefore, ChildrenStandBefore}
-use Rattle.run_laws.proofs.Pasts.{Came, came, kept_of, past_is}
+use Rattle.run_laws.specs.Laws.{past_of, HandlesAreHeld, HasHandle, Knows, IsFutureBefore, StandsBefore, HandlesStandBefore, ChildrenStandBefore}
+use Rattle.run_laws.proofs.Pasts.{came, past_is}
 use Rattle.run_laws.proofs.Mirrored.{mirrors}
 use Rattle.run_laws.proofs.Handles.{Each, InAll, steps_all}
 use Rattle.run_laws.proofs.Holding.{Holder, AllHold, numbers, came_holds}
@@ -42,13 +42,13 @@ handle_held : (V : Value → Type 0) (vars : Variables) (f : ℕ) → InAll V va
 handle_held V vars f h (v, among, here) = each_among V (values_of v.1) (Fut f) (all_among V vars v h among) here
 
 -- what a task knows it holds in the structure
-pub knows_held : (P : tree.Program) (h : List Event) (m : Machine) (t : ℕ) (r : Running) → Leads P (opening P) h m → slice_get m.tasks t ≡ Some r → (f : ℕ) → Knows r f → holds_handle (past_of h) t f ≡ true
-knows_held P h m t r l present f (inl (n, s, steps, has)) =
+pub handles_are_held : HandlesAreHeld
+handles_are_held P h m t r l present f (inl (n, s, steps, has)) =
     let V : Value → Type 0 = HoldsValue (past_of h) t in
     let own : Holder (past_of h) t r = all_hold P h m l t r present in
     let k = steps_all V (numbers (past_of h) t) n r.state s own.vars steps in
     handle_held V s.vars f k.1 has
-knows_held P h m t r l present f (inr is) =
+handles_are_held P h m t r l present f (inr is) =
     value_held (past_of h) (sound_past P h m l) t (Fut f) (((mirrors P h m l).each t r present).value ∙ is)
 
 module _ (P : tree.Program) (h : List Event) (m : Machine) (l : Leads P (opening P) h m) (t : ℕ) (r : Running) (present : slice_get m.tasks t ≡ Some r) where
@@ -66,7 +66,7 @@ module _ (P : tree.Program) (h : List Event) (m : Machine) (l : Leads P (opening
   future_before f k =
       let x = mirrors P h m l in
       let sp = sound_past P h m l in
-      let held = knows_held P h m t r l present f k in
+      let held = handles_are_held P h m t r l present f k in
       let root = is_root (past_of h) sp t f held in
       let lt : f < next_task (past_of h) = root.1 in
       let count : next_task (past_of h) ≡ length m.tasks = x.tasks in

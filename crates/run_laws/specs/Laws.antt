@@ -6,9 +6,9 @@ use Rattle.fut_base.specs.declared.event.Event.{Event}
 use Rattle.fut_base.specs.declared.event.Action.{Action}
 use Rattle.fut_base.specs.declared.event.Action.TheVariants.{Spawns, Creates, Syncs, Gets, Ends}
 use Rattle.fut_base.specs.Events.{structural, structure_of}
-use Rattle.fut_base.specs.Dag.{Among, ends, last_of, block_of}
+use Rattle.fut_base.specs.Dag.{Among, Reaches, ends, last_of, block_of}
 use Rattle.fut_base.specs.Orders.{is_in, stands_before, english_of}
-use Rattle.fut_base.specs.Sound.{IsSound, current, next_task, next_strand, future_of, value_of}
+use Rattle.fut_base.specs.Sound.{IsSound, current, holds_handle, next_task, next_strand, future_of, value_of}
 use Rattle.fut_syntax.specs.Trees as tree
 use Rattle.task_machine.specs.Variables.{Slot, Variables, values_of}
 use Rattle.task_machine.specs.Texts.{CellArray, cell_arrays}
@@ -75,6 +75,12 @@ pub record IsBegunOnce (h : List Event) (strands v : ℕ) : Type 0 where
 abbrev pub BegunOnce : Type 0
 BegunOnce = (P : tree.Program) (h : List Event) (m : Machine) (v : ℕ) → Leads P (opening P) h m → IsBegunOnce h m.strands v
 
+-- two tasks stand on two strands
+abbrev pub StrandsAreOwn : Type 0
+StrandsAreOwn =
+    (P : tree.Program) (h : List Event) (m : Machine) (t u : ℕ) (r q : Running) → Leads P (opening P) h m → slice_get m.tasks t ≡ Some r → slice_get m.tasks u ≡ Some q
+    → r.strand ≡ q.strand → t ≡ u
+
 -- after an event that leaves its strand no event stands on that strand
 abbrev pub LeftForGood : Type 0
 LeftForGood =
@@ -129,6 +135,12 @@ HasHandle vars future = (v : List ℕ × Slot) × Among v vars × Among (Fut fut
 abbrev pub Knows : Running → ℕ → Type 0
 Knows r future = ((n : ℕ) × (s : TaskState) × Steps n r.state s × HasHandle s.vars future) ⊎ (r.value ≡ Some (Fut future))
 
+-- a task holds each future that it knows
+abbrev pub HandlesAreHeld : Type 0
+HandlesAreHeld =
+    (P : tree.Program) (h : List Event) (m : Machine) (t : ℕ) (r : Running) → Leads P (opening P) h m → slice_get m.tasks t ≡ Some r
+    → (future : ℕ) → Knows r future → holds_handle (past_of h) t future ≡ true
+
 -- a task exists, and its strand stands before another one in English order
 pub record StandsBefore (h : List Event) (m : Machine) (t strand : ℕ) : Type 0 where
   pub task : Running
@@ -179,3 +191,9 @@ NoneIsStuck =
     (P : tree.Program) (h : List Event) (m : Machine) (t : ℕ) (r : Running) → Leads P (opening P) h m → HasCells P → IsFirst h m t r
     → ((s : TaskState) → StandsAt r.state s → wish_of P s ≢ NoWish)
     → IsOutOfSteps r.state ⊎ IsAllowed P m t
+
+-- from the strand of a later event no path leads to that of an earlier one, unless they are the same
+abbrev pub LaterReachesNone : Type 0
+LaterReachesNone =
+    (P : tree.Program) (before : List Event) (e : Event) (later : List Event) → IsLegal P (before ++ e ∷ later)
+    → (d : Event) → Among d before → Reaches (before ++ e ∷ later) e.strand d.strand → e.strand ≡ d.strand

@@ -1,5 +1,6 @@
 //! Laws of legal histories.
-ghost use Rattle.run_laws.specs.Laws.{BegunOnce, ChildrenStandBefore, EndedOnce, FirstExists, FirstIsOne, GetsFollowEnds, HandlesStandBefore, LeftForGood, LeftOnce, LegalIsSound, MirrorsStructure, NoneIsStuck, ValueWasEnded, WholeLeavesEach};
+ghost use Rattle.run_laws.specs.Laws.{BegunOnce, ChildrenStandBefore, EndedOnce, FirstExists, FirstIsOne, GetsFollowEnds, HandlesAreHeld, HandlesStandBefore, LaterReachesNone, LeftForGood, LeftOnce, LegalIsSound, MirrorsStructure, NoneIsStuck, StrandsAreOwn, ValueWasEnded, WholeLeavesEach};
+ghost use Rattle.run_laws.specs.Rows.{FutureRow};
 
 /// The tasks and the next numbers of the machine are what the functions on the structure give.
 pub fn mirrors()
@@ -14,6 +15,11 @@ pub fn legal_is_sound()
 /// Each strand but 0 is begun by one entry.
 pub fn begun_once()
     ensures { BegunOnce }
+{}
+
+/// Two tasks stand on two strands.
+pub fn strands_are_own()
+    ensures { StrandsAreOwn }
 {}
 
 /// No entry stands on a strand that was left.
@@ -46,6 +52,11 @@ pub fn gets_follow_ends()
     ensures { GetsFollowEnds }
 {}
 
+/// A task holds, in the structure, each future that it knows.
+pub fn handles_are_held()
+    ensures { HandlesAreHeld }
+{}
+
 /// The task of each future that a task knows stands before it in English order.
 pub fn handles_stand_before()
     ensures { HandlesStandBefore }
@@ -69,4 +80,14 @@ pub fn first_is_one()
 /// That task is out of steps, or may go on: no history is stuck.
 pub fn none_is_stuck()
     ensures { NoneIsStuck }
+{}
+
+/// No path leads from the strand of a later entry to that of an earlier one, unless it is the same strand.
+pub fn later_reaches_none()
+    ensures { LaterReachesNone }
+{}
+
+/// The laws' words on a run worked out by hand.
+pub fn future_row()
+    ensures { FutureRow }
 {}
