@@ -8,3 +8,4 @@ pub mod Ended
 pub mod Waits
 pub mod Stuck
 pub mod Late
+pub mod Typed

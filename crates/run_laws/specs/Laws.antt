@@ -10,6 +10,7 @@ use Rattle.fut_base.specs.Dag.{Among, Reaches, ends, last_of, block_of}
 use Rattle.fut_base.specs.Orders.{is_in, stands_before, english_of}
 use Rattle.fut_base.specs.Sound.{IsSound, current, holds_handle, next_task, next_strand, future_of, value_of}
 use Rattle.fut_syntax.specs.Trees as tree
+use Rattle.fut_check.specs.Items.{IsWellTyped}
 use Rattle.task_machine.specs.Variables.{Slot, Variables, values_of}
 use Rattle.task_machine.specs.Texts.{CellArray, cell_arrays}
 use Rattle.task_machine.specs.State.{TaskState, NoWish, wish_of}
@@ -184,6 +185,10 @@ FirstIsOne =
 -- each array of cells of the text has a cell
 abbrev pub HasCells : tree.Program → Type 0
 HasCells P = (a : CellArray) → Among a (cell_arrays P) → 0 < a.length
+
+-- so it is in a well-typed text
+abbrev pub WellTypedHasCells : Type 0
+WellTypedHasCells = (P : tree.Program) → IsWellTyped P → HasCells P
 
 -- the first task is out of steps, or its wish is allowed, if it has one
 abbrev pub NoneIsStuck : Type 0

@@ -1,5 +1,5 @@
 //! Laws of legal histories.
-ghost use Rattle.run_laws.specs.Laws.{BegunOnce, ChildrenStandBefore, EndedOnce, FirstExists, FirstIsOne, GetsFollowEnds, HandlesAreHeld, HandlesStandBefore, LaterReachesNone, LeftForGood, LeftOnce, LegalIsSound, MirrorsStructure, NoneIsStuck, StrandsAreOwn, ValueWasEnded, WholeLeavesEach};
+ghost use Rattle.run_laws.specs.Laws.{BegunOnce, ChildrenStandBefore, EndedOnce, FirstExists, FirstIsOne, GetsFollowEnds, HandlesAreHeld, HandlesStandBefore, LaterReachesNone, LeftForGood, LeftOnce, LegalIsSound, MirrorsStructure, NoneIsStuck, StrandsAreOwn, ValueWasEnded, WellTypedHasCells, WholeLeavesEach};
 ghost use Rattle.run_laws.specs.Rows.{FutureRow};
 
 /// The tasks and the next numbers of the machine are what the functions on the structure give.
@@ -75,6 +75,11 @@ pub fn first_exists()
 /// There is one such task.
 pub fn first_is_one()
     ensures { FirstIsOne }
+{}
+
+/// In a well-typed text each array of cells has a cell.
+pub fn well_typed_has_cells()
+    ensures { WellTypedHasCells }
 {}
 
 /// That task is out of steps, or may go on: no history is stuck.
