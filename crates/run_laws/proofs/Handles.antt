@@ -119,7 +119,7 @@ module _ (V : Value → Type 0) (int : (z : ℤ) → V (Int z)) where
     primary_all vs (tree.Name word) h = slot_all vs word h
     primary_all vs (tree.Bracket e) h = slot_in_all vs e h
 
-  value_in_all : (vs : Variables) (e : tree.Expr) → InAll V vs → V (value_in vs e)
+  pub value_in_all : (vs : Variables) (e : tree.Expr) → InAll V vs → V (value_in vs e)
   value_in_all vs e h = value_all (slot_in vs e) (slot_in_all vs e h)
 
   values_in_all : (vs : Variables) (es : List tree.Expr) → InAll V vs → Each V (values_in vs es)

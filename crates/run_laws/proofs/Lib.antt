@@ -9,3 +9,4 @@ pub mod Waits
 pub mod Stuck
 pub mod Late
 pub mod Typed
+pub mod Making

@@ -1,5 +1,5 @@
 -- A well-typed text has no empty array of cells.
-use Rattle.std.proofs.Common.{◌≡◌, ℕ, zero, suc, ◌+◌, ◌<◌, Bool, true, false, List, [], ◌∷◌, ◌++◌, inl, inr, refl, ap, subst, arith}
+use Rattle.std.proofs.Common.{◌≡◌, ℕ, zero, suc, ◌+◌, ◌<◌, Bool, true, false, List, [], ◌∷◌, ◌++◌, inl, inr, refl, subst, arith}
 use Rattle.std.specs.Prelude.{◌||◌, nat_eq, nat_lt}
 use Rattle.fut_base.specs.Dag.{Among}
 use Rattle.fut_syntax.specs.Trees as tree

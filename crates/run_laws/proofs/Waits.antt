@@ -28,7 +28,7 @@ get_some (x ∷ xs) (suc n) lt = get_some xs n (omega arith)
 pub all_hold : (P : tree.Program) (h : List Event) (m : Machine) → Leads P (opening P) h m → AllHold (past_of h) m
 all_hold P h m l = subst (λ z. AllHold z m) (past_is h) (came_holds P (reverse h) m (came P h m l))
 
-each_among : (V : Value → Type 0) (vs : List Value) (v : Value) → Each V vs → Among v vs → V v
+pub each_among : (V : Value → Type 0) (vs : List Value) (v : Value) → Each V vs → Among v vs → V v
 each_among V [] v h a = absurd a
 each_among V (x ∷ vs) v h (inl e) = subst V e h.0
 each_among V (x ∷ vs) v h (inr a) = each_among V vs v h.1 a

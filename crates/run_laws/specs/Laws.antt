@@ -11,9 +11,9 @@ use Rattle.fut_base.specs.Orders.{is_in, stands_before, english_of}
 use Rattle.fut_base.specs.Sound.{IsSound, current, holds_handle, next_task, next_strand, future_of, value_of}
 use Rattle.fut_syntax.specs.Trees as tree
 use Rattle.fut_check.specs.Items.{IsWellTyped}
-use Rattle.task_machine.specs.Variables.{Slot, Variables, values_of}
+use Rattle.task_machine.specs.Variables.{Slot, Variables, value_in, values_of}
 use Rattle.task_machine.specs.Texts.{CellArray, cell_arrays}
-use Rattle.task_machine.specs.State.{TaskState, NoWish, wish_of}
+use Rattle.task_machine.specs.State.{TaskState, ToSpawn, ToCreate, ToGet, ToEnd, NoWish, wish_of}
 use Rattle.task_machine.specs.Runs.{Steps, StandsAt, IsOutOfSteps}
 use Rattle.task_machine.specs.Machine.{Machine, Running, opening, Leads, IsLegal, EachEnded, IsAllowed, IsRunning}
 
@@ -131,6 +131,17 @@ GetsFollowEnds =
 -- a variable has the handle of a future, an array variable in one of its elements
 abbrev pub HasHandle : Variables → ℕ → Type 0
 HasHandle vars future = (v : List ℕ × Slot) × Among v vars × Among (Fut future) (values_of v.1)
+
+-- evaluation makes no handle: one that an expression gives, or a wish hands out, is in a variable
+pub record MakesNoHandle (P : tree.Program) (s : TaskState) : Type 0 where
+  pub value : (e : tree.Expr) (future : ℕ) → value_in s.vars e ≡ Fut future → HasHandle s.vars future
+  pub got : (future : ℕ) → wish_of P s ≡ ToGet future → HasHandle s.vars future
+  pub spawned : (code : ℕ) (args : List Value) → wish_of P s ≡ ToSpawn code args → (future : ℕ) → Among (Fut future) args → HasHandle s.vars future
+  pub created : (code : ℕ) (args : List Value) → wish_of P s ≡ ToCreate code args → (future : ℕ) → Among (Fut future) args → HasHandle s.vars future
+  pub ended : (future : ℕ) → wish_of P s ≡ ToEnd (Fut future) → HasHandle s.vars future
+
+abbrev pub EvaluationMakesNoHandle : Type 0
+EvaluationMakesNoHandle = (P : tree.Program) (s : TaskState) → MakesNoHandle P s
 
 -- a task knows a future: its handle is in a variable, now or after local steps, or the task ended with it
 abbrev pub Knows : Running → ℕ → Type 0

@@ -1,5 +1,5 @@
 //! Laws of legal histories.
-ghost use Rattle.run_laws.specs.Laws.{BegunOnce, ChildrenStandBefore, EndedOnce, FirstExists, FirstIsOne, GetsFollowEnds, HandlesAreHeld, HandlesStandBefore, LaterReachesNone, LeftForGood, LeftOnce, LegalIsSound, MirrorsStructure, NoneIsStuck, StrandsAreOwn, ValueWasEnded, WellTypedHasCells, WholeLeavesEach};
+ghost use Rattle.run_laws.specs.Laws.{BegunOnce, ChildrenStandBefore, EndedOnce, EvaluationMakesNoHandle, FirstExists, FirstIsOne, GetsFollowEnds, HandlesAreHeld, HandlesStandBefore, LaterReachesNone, LeftForGood, LeftOnce, LegalIsSound, MirrorsStructure, NoneIsStuck, StrandsAreOwn, ValueWasEnded, WellTypedHasCells, WholeLeavesEach};
 ghost use Rattle.run_laws.specs.Rows.{FutureRow};
 
 /// The tasks and the next numbers of the machine are what the functions on the structure give.
@@ -50,6 +50,11 @@ pub fn value_was_ended()
 /// A get of a future stands after the one end of its task, and has its value.
 pub fn gets_follow_ends()
     ensures { GetsFollowEnds }
+{}
+
+/// A handle that an expression gives or a wish hands out is in a variable.
+pub fn evaluation_makes_no_handle()
+    ensures { EvaluationMakesNoHandle }
 {}
 
 /// A task holds, in the structure, each future that it knows.
