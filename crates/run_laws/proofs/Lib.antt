@@ -1,0 +1,12 @@
+pub mod Pasts
+pub mod Mirrored
+pub mod Handles
+pub mod Holding
+pub mod Sound
+pub mod Once
+pub mod Ended
+pub mod Waits
+pub mod Stuck
+pub mod Late
+pub mod Typed
+pub mod Making
