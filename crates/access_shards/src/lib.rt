@@ -1,0 +1,9 @@
+//! Which accesses of a cell have to be remembered so that no race is missed.
+//!
+//! A `CellLog` keeps of one cell the last write and the reads after it that no later read is joined with, or the first
+//! pair of places that race once there is one. The laws say that this is enough, over any kinds of access.
+#![tactic(auto)]
+
+mod kept;
+
+pub use kept::{Access, Accesses, Kept};
