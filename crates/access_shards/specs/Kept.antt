@@ -1,5 +1,5 @@
 -- What is kept of the reads and writes of one cell. Lists of accesses called `past` have the newest one first.
-use Rattle.std.specs.Prelude.{◌≡◌, ℕ, ◌<◌, Bool, true, false, ◌||◌, List, [], ◌∷◌, reverse, Option, Some, None}
+use Rattle.std.specs.Prelude.{◌≡◌, ℕ, ◌<◌, Bool, true, false, ◌||◌, List, [], ◌∷◌, ◌++◌, reverse, option_to_list, Option, Some, None}
 use Rattle.fut_base.specs.declared.event.Event.{Event}
 use Rattle.fut_base.specs.Dag.{Among, edges_of}
 use Rattle.fut_base.specs.Sound.{IsSound}
@@ -48,6 +48,10 @@ pub record AreReaders (s : List Event) (past : List (Touch Kind)) (readers : Lis
 abbrev pub IsKept : List Event → List (Touch Kind) → Kept → Type 0
 IsKept s past (Clean writer readers) = HasNoRace Kind kinds (edges_of s) past × IsWriter s past writer × AreReaders s past readers.items
 IsKept s past (Found first second) = IsFirstPair Kind kinds (edges_of s) past first second
+
+-- the accesses that are kept, in the order of their places
+abbrev pub all_kept : Option Access → List Access → List Access
+all_kept writer readers = option_to_list writer ++ readers
 
 abbrev pub touch : ℕ → ℕ → Kind → Touch Kind
 touch place strand kind = record { place = place; strand = strand; kind = kind }

@@ -1,0 +1,120 @@
+-- What is kept of the reads and writes of a cell with one more.
+use Rattle.std.proofs.Common.{◌≡◌, ℕ, ◌<◌, ◌≤◌, Bool, true, false, ◌||◌, List, [], ◌∷◌, ◌++◌, ◌⊎◌, inl, inr, subst, ap, sym, refl, ◌∙◌, true≢false, arith, option_to_list}
+use Rattle.std.specs.Prelude.{Option, Some, None}
+use Rattle.fut_base.specs.declared.event.Event.{Event}
+use Rattle.fut_base.specs.Dag.{Among, ReachesBy, AreJoinedBy, edges_of}
+use Rattle.strand_tree.specs.declared.strand.Strand.{Strand}
+use Rattle.access_shards.specs.declared.kept.Access.{Access}
+use Rattle.access_shards.specs.Touches.{Touch, WritesConflict, IsRising, IsLate, HasNoRace, IsFirstPair, IsLastWrite, IsLatest, MustBeKept}
+use Rattle.access_shards.specs.Kept.{Kind, reading, writing, is_write, kinds, Shows, IsWriter, IsInOrder, AreReaders, all_kept, touch, MayCome}
+use Rattle.access_shards.proofs.Enough.{one_at, reached, Meets}
+use Rattle.access_shards.proofs.Next.{latest_before, latest_stays, latest_new, latest_none, write_new, write_stays, no_write, still_none, pair_found, pair_stays}
+
+or_right : (b : Bool) → (b || true) ≡ true
+or_right true = refl
+or_right false = refl
+
+pub strong : WritesConflict Kind kinds
+strong =
+    record {
+      before = λ w k h. ap (λ b. b || is_write k) h ∙ or_left (is_write k);
+      after = λ w k h. ap (λ b. is_write k || b) h ∙ or_right (is_write k);
+    }
+  where
+    or_left : (b : Bool) → (true || b) ≡ true
+    or_left b = refl
+
+pub among_or : {X : Type 0} → (x : X) (xs ys : List X) → Among x (xs ++ ys) → Among x xs ⊎ Among x ys
+among_or x [] ys h = inr h
+among_or x (z ∷ xs) ys (inl e) = inl (inl e)
+among_or x (z ∷ xs) ys (inr h) = elim (among_or x xs ys h) [ inl k ↦ inl (inr k) | inr k ↦ inr k ]
+
+pub among_left : {X : Type 0} → (x : X) (xs ys : List X) → Among x xs → Among x (xs ++ ys)
+among_left x [] ys h = absurd h
+among_left x (z ∷ xs) ys (inl e) = inl e
+among_left x (z ∷ xs) ys (inr h) = inr (among_left x xs ys h)
+
+pub among_right : {X : Type 0} → (x : X) (xs ys : List X) → Among x ys → Among x (xs ++ ys)
+among_right x [] ys h = h
+among_right x (z ∷ xs) ys h = inr (among_right x xs ys h)
+
+-- a list in order, and one more at its end
+pub in_order_more : (xs : List Access) (y : Access) → IsInOrder xs → ((a : Access) → Among a xs → a.place < y.place) → IsInOrder (xs ++ y ∷ [])
+in_order_more [] y h above = ((λ b k. absurd k), tt)
+in_order_more (x ∷ xs) y h above =
+    ((λ b k. elim (among_or b xs (y ∷ []) k) [ inl l ↦ h.0 b l | inr (inl e) ↦ subst (λ (z : Access). x.place < z.place) e (above x (inl refl)) | inr (inr n) ↦ absurd n ]), in_order_more xs y h.1 (λ a k. above a (inr k)))
+
+pub in_order_last : (xs : List Access) (y : Access) → IsInOrder (xs ++ y ∷ []) → IsInOrder xs × ((a : Access) → Among a xs → a.place < y.place)
+in_order_last [] y h = (tt, λ a k. absurd k)
+in_order_last (x ∷ xs) y h =
+    let rest = in_order_last xs y h.1 in (
+      ((λ b k. h.0 b (among_left b xs (y ∷ []) k)), rest.0),
+      λ a k. elim k [ inl e ↦ subst (λ (z : Access). z.place < y.place) e (h.0 y (among_right y xs (y ∷ []) (inl refl))) | inr l ↦ rest.1 a l ],
+    )
+
+-- what comes after those of a cell that have no race, of which these are kept
+module _ (s : List Event) (past : List (Touch Kind)) (at : Strand) (place : ℕ) (kind : Kind) (may : MayCome s past at place kind) (calm : HasNoRace Kind kinds (edges_of s) past) (writer : Option Access) (readers : List Access) (wrote : IsWriter s past writer) (read : AreReaders s past readers) where
+  abbrev x : Touch Kind
+  x = touch place at.number kind
+
+  abbrev es : List (ℕ × ℕ)
+  es = edges_of s
+
+  abbrev Apart : Access → Type 0
+  Apart a = ReachesBy es a.strand.number at.number → ⊥
+
+  -- a kept access is shown
+  last_shown : (o : Option Access) → IsWriter s past o → (c : Touch Kind) → IsLastWrite Kind kinds past c → (a : Access) × (o ≡ Some a) × Shows s a c
+  last_shown None w c l = absurd (true≢false (sym l.write ∙ w c l.there))
+  last_shown (Some a) w c l =
+      let one = w.1.last c l.there l.write in
+      let two = l.last w.0 w.1.there w.1.write in
+      let e : w.0 ≡ c = one_at past may.rising.1 w.0 c w.1.there l.there (omega (arith, one, two)) in
+      (a, refl, subst (Shows s a) e w.2)
+
+  reads : (c : Touch Kind) (k : Kind) → IsLatest Kind kinds es past k c → k ≡ reading
+  reads c reading l = refl
+  reads c writing l = (let lt = l.after c l.there (ap is_write l.kind_is) in absurd (omega (arith, lt)))
+
+  in_writer : (o : Option Access) (a : Access) → o ≡ Some a → Among a (option_to_list o)
+  in_writer o a e = subst (λ z. Among a (option_to_list z)) (sym e) (inl refl)
+
+  shown : (c : Touch Kind) → MustBeKept Kind kinds es past c → (a : Access) × Among a (all_kept writer readers) × Shows s a c
+  shown c (inl l) = let k = last_shown writer wrote c l in (k.0, among_left k.0 (option_to_list writer) readers (in_writer writer k.0 k.1), k.2)
+  shown c (inr l) =
+      let k = read.whole c (subst (λ z. IsLatest Kind kinds es past z c) (reads c c.kind l) l) in
+      (k.0, among_right k.0 (option_to_list writer) readers k.1, k.2)
+
+  -- what is kept shows an access that must be
+  from_writer : (o : Option Access) → IsWriter s past o → (a : Access) → Among a (option_to_list o) → (c : Touch Kind) × IsLastWrite Kind kinds past c × Shows s a c
+  from_writer None w a h = absurd h
+  from_writer (Some b) w a (inl e) = (w.0, w.1, subst (λ z. Shows s z w.0) e w.2)
+  from_writer (Some b) w a (inr h) = absurd h
+
+  kept_one : (a : Access) → Among a (all_kept writer readers) → (c : Touch Kind) × MustBeKept Kind kinds es past c × Shows s a c
+  kept_one a h = elim (among_or a (option_to_list writer) readers h) [
+    | inl l ↦ (let k = from_writer writer wrote a l in (k.0, inl k.1, k.2))
+    | inr l ↦ (let k = read.each a l in (k.0, inr (subst (λ z. IsLatest Kind kinds es past z k.0) (sym k.1.kind_is) k.1), k.2))
+  ]
+
+  among_past : (c : Touch Kind) → MustBeKept Kind kinds es past c → Among c past
+  among_past c (inl l) = l.there
+  among_past c (inr l) = l.there
+
+  -- x is reached from what is kept exactly where it is from what that shows
+  meets_apart : (a : Access) (c : Touch Kind) → Shows s a c → Meets Kind kinds es past x c → Apart a
+  meets_apart a c sh m = λ r. m.1 (subst (λ n. ReachesBy es n at.number) sh.number_is r)
+
+  apart_meets : (a : Access) (c : Touch Kind) → Shows s a c → kinds.conflict c.kind kind ≡ true → Apart a → Meets Kind kinds es past x c
+  apart_meets a c sh k ap' = (k, λ r. ap' (subst (λ n. ReachesBy es n at.number) (sym sh.number_is) r))
+
+  -- the last write and the reads after it are in order
+  pub kept_in_order : IsInOrder (all_kept writer readers)
+  kept_in_order = go writer wrote
+    where
+      go : (o : Option Access) → IsWriter s past o → IsInOrder (all_kept o readers)
+      go None w = read.order
+      go (Some a) w = ((λ b h. (let k = read.each b h in let lt = k.1.after w.0 w.1.there w.1.write in omega (arith, lt, w.2.place_is, k.2.place_is))), read.order)
+
+  pub strands_of : (a : Access) → Among a (all_kept writer readers) → Rattle.strand_tree.specs.Placing.IsStrandOf s a.strand
+  strands_of a h = (kept_one a h).2.strand_of
