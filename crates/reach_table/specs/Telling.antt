@@ -19,7 +19,7 @@ pub record HasTable (s : List Event) (v : ℕ) (table : List Strand) : Type 0 wh
 
 -- a strand of some structural events that is among those that are known, with the lesser numbers
 pub record IsKnownOf (s : List Event) (known x : ℕ) : Type 0 where
-  pub known : x < known
+  pub less : x < known
   pub there : x < next_strand (reverse s)
 
 -- two lists have any two known strands of some structural events in the order that these events give them
