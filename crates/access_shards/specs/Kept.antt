@@ -5,6 +5,7 @@ use Rattle.fut_base.specs.Dag.{Among, edges_of}
 use Rattle.fut_base.specs.Sound.{IsSound}
 use Rattle.strand_tree.specs.declared.strand.Strand.{Strand}
 use Rattle.strand_tree.specs.Placing.{IsStrandOf}
+use Rattle.reach_table.specs.Telling.{HasTable, OrdersAgree}
 use Rattle.access_shards.specs.declared.kept.Access.{Access}
 use Rattle.access_shards.specs.declared.kept.Kept.{Kept}
 use Rattle.access_shards.specs.declared.kept.Kept.TheVariants.{Clean, Found}
@@ -56,10 +57,28 @@ all_kept writer readers = option_to_list writer ++ readers
 abbrev pub touch : ℕ → ℕ → Kind → Touch Kind
 touch place strand kind = record { place = place; strand = strand; kind = kind }
 
--- an access may come after those of a cell: its strand is one of the sound structural events, its place is above theirs,
--- and no path leads from an access, this one included, to another strand of an earlier one
+-- an access may come after those of a cell: its place is above theirs, and no path leads from an access, this one
+-- included, to another strand of an earlier one
 pub record MayCome (s : List Event) (past : List (Touch Kind)) (at : Strand) (place : ℕ) (kind : Kind) : Type 0 where
-  pub sound : IsSound s
-  pub here : IsStrandOf s at
   pub rising : IsRising (touch place at.number kind ∷ past)
   pub late : IsLate (edges_of s) (touch place at.number kind ∷ past)
+
+-- a judge's lists and a table are a view of these structural events at a strand: the events are sound and have the
+-- strand, the table is the strand's, and the lists have the orders of the events
+pub record IsViewOf (s : List Event) (table : List Strand) (at : Strand) (known : ℕ) (english hebrew : List ℕ) : Type 0 where
+  pub sound : IsSound s
+  pub here : IsStrandOf s at
+  pub table_is : HasTable s at.number table
+  pub orders : OrdersAgree s known english hebrew
+
+-- the judge knows the strands of what is kept
+abbrev pub AreKnown : ℕ → Kept → Type 0
+AreKnown known (Clean writer readers) = (a : Access) → Among a (all_kept writer readers.items) → a.strand.number < known
+AreKnown known (Found first second) = Unit {0}
+
+-- for any structural events of which this is a view, and accesses of a cell after which one more may come: where the first
+-- was kept of them, the second is kept of them and that one
+abbrev pub KeepsOneMore : List Strand → Strand → ℕ → Kind → ℕ → List ℕ → List ℕ → Kept → Kept → Type 0
+KeepsOneMore table at place kind known english hebrew old new =
+    (s : List Event) (past : List (Touch Kind)) → IsViewOf s table at known english hebrew → MayCome s past at place kind
+    → IsKept s past old → IsKept s (touch place at.number kind ∷ past) new
