@@ -1,3 +1,5 @@
 pub mod Enough
 pub mod Next
 pub mod Keeping
+pub mod Looking
+pub mod Logging

@@ -1,5 +1,5 @@
 -- What is found among kept accesses before one more is kept.
-use Rattle.std.specs.Prelude.{◌≡◌, ℕ, ◌≤◌, List, ◌↔◌, Option, Some, None, option_to_list}
+use Rattle.std.specs.Prelude.{◌≡◌, ℕ, ◌<◌, ◌≤◌, List, [], ◌∷◌, ◌++◌, ◌↔◌, ◌⊎◌, Option, Some, None}
 use Rattle.fut_base.specs.declared.event.Event.{Event}
 use Rattle.fut_base.specs.Dag.{Among, ReachesBy, edges_of}
 use Rattle.strand_tree.specs.declared.strand.Strand.{Strand}
@@ -34,3 +34,19 @@ pub record AreThoseApart (s : List Event) (at : Strand) (all left : List Access)
 abbrev pub FindsApart : List Strand → Strand → ℕ → List ℕ → List ℕ → List Access → List Access → Type 0
 FindsApart table at known english hebrew all left =
     (s : List Event) → IsViewOf s table at known english hebrew → AreOf s all → AreThoseApart s at all left
+
+-- each access is on a strand that is known
+abbrev pub AllOnKnown : ℕ → List Access → Type 0
+AllOnKnown known all = (a : Access) → Among a all → a.strand.number < known
+
+-- the place of an access from which a strand is not reached, or else what was found before
+abbrev pub LooksOn : List Strand → Strand → ℕ → List ℕ → List ℕ → Access → Option ℕ → Option ℕ → Type 0
+LooksOn table at known english hebrew a found next =
+    (s : List Event) → IsViewOf s table at known english hebrew → IsStrandOf s a.strand
+    → (ReachesBy (edges_of s) a.strand.number at.number × (next ≡ found)) ⊎ (IsApart s at a × (next ≡ Some a.place))
+
+-- an access from which a strand is not reached is added
+abbrev pub KeepsApart : List Strand → Strand → ℕ → List ℕ → List ℕ → Access → List Access → List Access → Type 0
+KeepsApart table at known english hebrew a old new =
+    (s : List Event) → IsViewOf s table at known english hebrew → IsStrandOf s a.strand
+    → (ReachesBy (edges_of s) a.strand.number at.number × (new ≡ old)) ⊎ (IsApart s at a × (new ≡ old ++ a ∷ []))

@@ -82,3 +82,8 @@ abbrev pub KeepsOneMore : List Strand → Strand → ℕ → Kind → ℕ → Li
 KeepsOneMore table at place kind known english hebrew old new =
     (s : List Event) (past : List (Touch Kind)) → IsViewOf s table at known english hebrew → MayCome s past at place kind
     → IsKept s past old → IsKept s (touch place at.number kind ∷ past) new
+
+-- nothing is kept of a cell without accesses
+abbrev pub IsNew : Kept → Type 0
+IsNew (Clean writer readers) = (writer ≡ None) × (readers.items ≡ [])
+IsNew (Found first second) = ⊥

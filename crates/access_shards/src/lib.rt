@@ -4,6 +4,9 @@
 //! pair of places that race once there is one. The laws say that this is enough, over any kinds of access.
 #![tactic(auto)]
 
+mod finding;
 mod kept;
+mod log;
 
 pub use kept::{Access, Accesses, Kept};
+pub use log::CellLog;
