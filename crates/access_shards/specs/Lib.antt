@@ -1,4 +1,5 @@
 pub mod Finding
+pub mod Histories
 pub mod Kept
 pub mod Laws
 pub mod Logged

@@ -63,3 +63,14 @@ pub record IsLatest (K : Type 0) (kinds : Kinds K) (es : List (ℕ × ℕ)) (all
 -- what has to be remembered: the last write, and of each kind the accesses after it that no later one is joined with
 abbrev pub MustBeKept : (K : Type 0) → Kinds K → List (ℕ × ℕ) → List (Touch K) → Touch K → Type 0
 MustBeKept K kinds es all t = IsLastWrite K kinds all t ⊎ IsLatest K kinds es all t.kind t
+
+-- an access that conflicts with x and that no path joins with it
+pub record IsPartner (K : Type 0) (kinds : Kinds K) (es : List (ℕ × ℕ)) (x t : Touch K) : Type 0 where
+  pub conflict : kinds.conflict t.kind x.kind ≡ true
+  pub apart : AreJoinedBy es t.strand x.strand → ⊥
+
+-- the greatest partner of x, of those for which P holds
+pub record IsGreatestPartner (K : Type 0) (kinds : Kinds K) (es : List (ℕ × ℕ)) (x : Touch K) (P : Touch K → Type 0) (t : Touch K) : Type 0 where
+  pub there : P t
+  pub partner : IsPartner K kinds es x t
+  pub greatest : (b : Touch K) → P b → IsPartner K kinds es x b → b.place ≤ t.place
