@@ -33,10 +33,10 @@ pub fn union(alloc: Global, one: &[Strand], other: &[Strand]) -> Result<Vec<Stra
             all.push(other[j])?;
             j += 1;
         } else {
+            all.push(one[i])?;
             if one[i] == other[j] {
                 j += 1;
             }
-            all.push(one[i])?;
             i += 1;
         }
     }
