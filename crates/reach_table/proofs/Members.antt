@@ -1,8 +1,9 @@
 -- Members of lists.
-use Rattle.std.proofs.Common.{◌≡◌, ℕ, zero, suc, ◌+◌, ◌<◌, Bool, true, false, List, [], ◌∷◌, ◌++◌, length, get_or, take, drop, map, flat_map, ◌⊎◌, inl, inr, subst, ap, sym, refl, ◌∙◌, arith}
+use Rattle.std.proofs.Common.{◌≡◌, ℕ, zero, suc, ◌+◌, ◌-◌, ◌<◌, ◌≤◌, Bool, true, false, ◌&&◌, ◌==◌, ◌≢◌, true≢false, List, [], ◌∷◌, ◌++◌, length, get_or, take, drop, map, flat_map, ◌⊎◌, inl, inr, subst, ap, sym, refl, ◌∙◌, arith}
 use Rattle.std.proofs.lemmas.List.{take-append-drop, take_more}
 use Rattle.fut_base.specs.Dag.{Among}
-use Rattle.strand_laws.proofs.Places.{among_or, among_left, among_right}
+use Rattle.strand_laws.proofs.Places.{by_eq, among_or, among_left, among_right}
+use Rattle.strand_laws.proofs.Held.{is_eq}
 use Rattle.strand_tree.specs.declared.strand.Strand.{Strand}
 use Rattle.reach_table.specs.Telling.{number_of}
 
@@ -51,3 +52,29 @@ same_strand w x n f =
     let by_number : ℕ → Strand = λ m. record { number = m; future = w.future } in
     let by_future : ℕ → Strand = λ m. record { number = x.number; future = m } in
     ap by_number n ∙ ap by_future f
+
+and_left : (a b : Bool) → (a && b) ≡ true → a ≡ true
+and_left true b h = refl
+and_left false b h = absurd (true≢false (sym h))
+
+and_right : (a b : Bool) → (a && b) ≡ true → b ≡ true
+and_right true b h = h
+and_right false b h = absurd (true≢false (sym h))
+
+pub equal_strands : (x y : Strand) (b : Bool) → b ≡ ((x.number == y.number) && (x.future == y.future)) → b ≡ true → x ≡ y
+equal_strands x y b is yes_b =
+    let h : ((x.number == y.number) && (x.future == y.future)) ≡ true = sym is ∙ yes_b in
+    same_strand x y (is_eq _ _ (and_left _ _ h)) (is_eq _ _ (and_right (x.number == y.number) _ h))
+
+both_true : (a b : Bool) → a ≡ true → b ≡ true → (a && b) ≡ true
+both_true true b h k = k
+both_true false b h k = h
+
+self : (n : ℕ) → (n == n) ≡ true
+self n = by_eq (λ z. z ≡ true) n n (λ _. refl) (λ ne. absurd (ne refl))
+
+pub unequal_strands : (x y : Strand) (b : Bool) → b ≡ ((x.number == y.number) && (x.future == y.future)) → b ≡ false → x ≢ y
+unequal_strands x y b is no_b e =
+    let P : Strand → Type 0 = λ z. ((x.number == z.number) && (x.future == z.future)) ≡ true in
+    let h : P y = subst P e (both_true _ _ (self x.number) (self x.future)) in
+    true≢false (sym h ∙ sym is ∙ no_b)

@@ -1,6 +1,10 @@
 -- What an answer tells of paths.
-use Rattle.std.proofs.Common.{◌≡◌, ◌≢◌, ℕ, ◌+◌, ◌<◌, ◌≤◌, Bool, true, false, ◌&&◌, List, [], ◌∷◌, ◌++◌, map, reverse, ◌⊎◌, inl, inr, subst, ap, sym, refl, ◌∙◌, true≢false, arith}
+use Rattle.std.proofs.Common.{◌≡◌, ◌≢◌, ℕ, ◌+◌, ◌<◌, ◌≤◌, Bool, true, false, ◌&&◌, List, [], ◌∷◌, ◌++◌, length, get_or, take, map, reverse, ◌⊎◌, inl, inr, subst, ap, sym, refl, ◌∙◌, true≢false, arith}
 use Rattle.std.specs.Prelude.{◌↔◌}
+use Rattle.std.proofs.lemmas.List.{append_assoc}
+use Rattle.order_list.specs.declared.judge.Sides.{Sides}
+use Rattle.order_list.specs.declared.judge.Moved.{Moved}
+use Rattle.order_list.specs.Sides.{AreSides}
 use Rattle.fut_base.specs.declared.event.Event.{Event}
 use Rattle.fut_base.specs.Dag.{Among, ReachesBy, edges_past}
 use Rattle.fut_base.specs.Orders.{stands_before, precedes_past}
@@ -13,9 +17,9 @@ use Rattle.strand_laws.proofs.Ones.{table_means_path, table_has_one}
 use Rattle.strand_laws.proofs.Least.{try_means_path}
 use Rattle.strand_tree.specs.declared.strand.Strand.{Strand}
 use Rattle.strand_tree.specs.Placing.{IsStrandOf}
-use Rattle.reach_table.specs.Telling.{number_of, HasTable, IsKnownOf, OrdersAgree, AllKnown, TellsReach, IsOrPrecedes, ReachesOne}
+use Rattle.reach_table.specs.Telling.{number_of, HasTable, IsKnownOf, OrdersAgree, AllKnown, TellsReach, IsOrPrecedes, ReachesOne, HasMovedLast}
 use Rattle.reach_table.specs.Tabled.{TableTells, OneOfEach}
-use Rattle.reach_table.proofs.Members.{of_number, numbered, same_strand}
+use Rattle.reach_table.proofs.Members.{of_number, numbered, same_strand, in_more}
 use Rattle.reach_table.proofs.Agreeing.{agree}
 
 both_true : (a b : Bool) → a ≡ true → b ≡ true → (a && b) ≡ true
@@ -100,3 +104,36 @@ tells_across table group u v known english hebrew answer ne ku all mine iff s so
           let c = law.0 r in
           iff.1 (c.0, (mine c.0).1 (c.1, c.2), of_past s known english hebrew orders u.number c.0.number hu (at c.0 c.1) c.3)),
     )
+
+-- what the sides of two different strands tell
+pub told : (sides : Sides) (a b x y : ℕ) (english hebrew : List ℕ) (answer : Bool) → a ≡ x → b ≡ y → x ≢ y → AreSides sides a b english hebrew → (answer ≡ true) ↔ ((sides.english ≡ true) × (sides.hebrew ≡ true)) → (answer ≡ true) ↔ IsOrPrecedes english hebrew x y
+told sides a b x y english hebrew answer ax byy ne are both =
+    let first : sides.english ≡ stands_before x y english = are.first ∙ ap (λ z. stands_before z b english) ax ∙ ap (λ z. stands_before x z english) byy in
+    let second : sides.hebrew ≡ stands_before x y hebrew = are.second ∙ ap (λ z. stands_before z b hebrew) ax ∙ ap (λ z. stands_before x z hebrew) byy in (
+      λ h. (let k = both.0 h in inr (sym first ∙ k.0, sym second ∙ k.1)),
+      λ o. elim o [ inl e ↦ absurd (ne e) | inr k ↦ both.1 (first ∙ k.0, second ∙ k.1) ],
+    )
+
+-- one more load after others
+pub moved_after : (moved : Moved) (may may' : Bool) (before mid after more : List ℕ) → mid ≡ before ++ more → may' ≡ may → HasMovedLast moved may' mid after → HasMovedLast moved may before after
+moved_after moved may may' before mid after more is same m =
+    record {
+      may = sym same ∙ m.may;
+      loads = (more ++ m.loads.0, m.loads.1 ∙ ap (λ l. l ++ (m.loads.0 ++ moved.first ∷ moved.second ∷ [])) is ∙ rw (append_assoc, append_assoc) refl);
+      differ = m.differ;
+    }
+
+pub loads_after : (before mid after : List ℕ) → ((more : List ℕ) × (mid ≡ before ++ more)) → ((more : List ℕ) × (after ≡ mid ++ more)) → (more : List ℕ) × (after ≡ before ++ more)
+loads_after before mid after h k = (h.0 ++ k.0, k.1 ∙ ap (λ l. l ++ k.0) h.1 ∙ append_assoc before h.0 k.0)
+
+-- a further strand that is not reached
+pub one_more : (english hebrew english' hebrew' : List ℕ) (x : ℕ) (ws : List Strand) (i : ℕ) (d : Strand) (answer : Bool) → i < length ws → english' ≡ english → hebrew' ≡ hebrew → (ReachesOne english hebrew x (take i ws) → ⊥) → (answer ≡ true) ↔ IsOrPrecedes english' hebrew' x (get_or ws i d).number → answer ≡ false → ReachesOne english hebrew x (take (i + 1) ws) → ⊥
+one_more english hebrew english' hebrew' x ws i d answer lt en he none iff no r =
+    elim (in_more ws i d lt r.0 r.1) [
+      | inl a ↦ none (r.0, a, r.2)
+      | inr e ↦ (
+          let P : List ℕ → Type 0 = λ l. IsOrPrecedes l hebrew' x (get_or ws i d).number in
+          let Q : List ℕ → Type 0 = λ l. IsOrPrecedes english l x (get_or ws i d).number in
+          let R : Strand → Type 0 = λ w. IsOrPrecedes english hebrew x w.number in
+          true≢false (sym (iff.1 (subst P (sym en) (subst Q (sym he) (subst R (sym e) r.2)))) ∙ no))
+    ]

@@ -90,16 +90,16 @@ after_more (x ∷ xs) zero d bound r lt h w (inr a) = let k = below_future x w (
 after_more (x ∷ xs) (suc i) d bound r lt h w a = after_more xs i d bound r.1 (omega arith) h w a
 
 -- what lies between two places that a future has
-pub between : (xs : List Strand) (low count f : ℕ) → ((w : Strand) → Among w (take low xs) → w.future < f) → ((w : Strand) → Among w (drop low xs) → f ≤ w.future) → ((w : Strand) → Among w (take count (drop low xs)) → w.future < f + 1) → ((w : Strand) → Among w (drop count (drop low xs)) → f + 1 ≤ w.future) → (w : Strand) → Among w (take count (drop low xs)) ↔ (Among w xs × (w.future ≡ f))
-between xs low count f before after until past w = (
+pub between : (xs rest : List Strand) (low count f : ℕ) → rest ≡ drop low xs → ((w : Strand) → Among w (take low xs) → w.future < f) → ((w : Strand) → Among w (drop low xs) → f ≤ w.future) → ((w : Strand) → Among w (take count rest) → w.future < f + 1) → ((w : Strand) → Among w (drop count rest) → f + 1 ≤ w.future) → (w : Strand) → Among w (take count rest) ↔ (Among w xs × (w.future ≡ f))
+between xs rest low count f is before after until past w = (
   λ a. (
-      let d = from_take count (drop low xs) w a in
+      let d : Among w (drop low xs) = subst (λ l. Among w l) is (from_take count rest w a) in
       let k = after w d in
       let j = until w a in
       (from_drop low xs w d, omega (arith, k, j))),
   λ p. elim (in_take_or_drop low xs w p.0) [
     | inl a ↦ absurd (let k = before w a in let e = p.1 in omega (arith, k, e))
-    | inr b ↦ elim (in_take_or_drop count (drop low xs) w b) [
+    | inr b ↦ elim (in_take_or_drop count rest w (subst (λ l. Among w l) (sym is) b)) [
       | inl a ↦ a
       | inr c ↦ absurd (let k = past w c in let e = p.1 in omega (arith, k, e))
     ]

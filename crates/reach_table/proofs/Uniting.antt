@@ -1,12 +1,12 @@
 -- Two rising lists, put together one item after the other.
-use Rattle.std.proofs.Common.{◌≡◌, ◌≢◌, List, [], ◌∷◌, ◌++◌, ◌⊎◌, inl, inr, subst, ap, sym, refl}
+use Rattle.std.proofs.Common.{◌≡◌, ◌≢◌, ℕ, ◌+◌, ◌<◌, List, [], ◌∷◌, ◌++◌, length, drop, get_or, ◌⊎◌, inl, inr, subst, ap, sym, refl}
 use Rattle.std.specs.Prelude.{◌↔◌}
-use Rattle.std.proofs.lemmas.List.{append_assoc, append-nil}
+use Rattle.std.proofs.lemmas.List.{append_assoc, append-nil, drop_more}
 use Rattle.fut_base.specs.Dag.{Among}
 use Rattle.strand_laws.proofs.Places.{among_or, among_left, among_right}
 use Rattle.strand_tree.specs.declared.strand.Strand.{Strand}
 use Rattle.reach_table.specs.Sorted.{IsBelow, IsRising}
-use Rattle.reach_table.proofs.Rising.{below_trans, rising_left, rising_in}
+use Rattle.reach_table.proofs.Rising.{below_trans, below_or, rising_left, rising_in}
 
 -- what has been taken of both lists, and what is left of each
 pub record Unites (one other all ra rb : List Strand) : Type 0 where
@@ -105,3 +105,30 @@ ends_members one other all ra rb u w = (
     | inr a ↦ elim (u.other_in w a) [ inl l ↦ among_left w (all ++ ra) rb (among_left w all ra l) | inr r ↦ among_right w (all ++ ra) rb r ]
   ],
 )
+
+-- the heads of what is left
+heads : (one other all : List Strand) (i j : ℕ) (d : Strand) → i < length one → j < length other → Unites one other all (drop i one) (drop j other) → Unites one other all (get_or one i d ∷ drop (i + 1) one) (get_or other j d ∷ drop (j + 1) other)
+heads one other all i j d li lj u =
+    let P : List Strand → Type 0 = λ l. Unites one other all l (drop j other) in
+    let Q : List Strand → Type 0 = λ l. Unites one other all (get_or one i d ∷ drop (i + 1) one) l in
+    subst Q (drop_more other j d lj) (subst P (drop_more one i d li) u)
+
+module _ (one other all new : List Strand) (i j : ℕ) (d : Strand) (li : i < length one) (lj : j < length other) (u : Unites one other all (drop i one) (drop j other)) where
+  pub step_other : IsBelow (get_or other j d) (get_or one i d) → new ≡ all ++ get_or other j d ∷ [] → Unites one other new (drop i one) (drop (j + 1) other)
+  step_other b is =
+      let k = take_other one other all (get_or one i d) (get_or other j d) _ _ b (heads one other all i j d li lj u) in
+      let P : List Strand → Type 0 = λ l. Unites one other (all ++ get_or other j d ∷ []) l (drop (j + 1) other) in
+      let Q : List Strand → Type 0 = λ l. Unites one other l (drop i one) (drop (j + 1) other) in
+      subst Q (sym is) (subst P (sym (drop_more one i d li)) k)
+
+  pub step_one : (IsBelow (get_or other j d) (get_or one i d) → ⊥) → get_or one i d ≢ get_or other j d → new ≡ all ++ get_or one i d ∷ [] → Unites one other new (drop (i + 1) one) (drop j other)
+  step_one off ne is =
+      let k = take_one one other all (get_or one i d) (get_or other j d) _ _ (below_or _ _ off ne) (heads one other all i j d li lj u) in
+      let P : List Strand → Type 0 = λ l. Unites one other (all ++ get_or one i d ∷ []) (drop (i + 1) one) l in
+      let Q : List Strand → Type 0 = λ l. Unites one other l (drop (i + 1) one) (drop j other) in
+      subst Q (sym is) (subst P (sym (drop_more other j d lj)) k)
+
+  pub step_both : get_or one i d ≡ get_or other j d → new ≡ all ++ get_or one i d ∷ [] → Unites one other new (drop (i + 1) one) (drop (j + 1) other)
+  step_both same is =
+      let Q : List Strand → Type 0 = λ l. Unites one other l (drop (i + 1) one) (drop (j + 1) other) in
+      subst Q (sym is) (take_both one other all (get_or one i d) (get_or other j d) _ _ same (heads one other all i j d li lj u))

@@ -5,6 +5,7 @@ use Rattle.reach_table.proofs.group.first_from.Given as goal
 
 abbrev pub invariant-loop-low : goal.invariant-loop-low
 invariant-loop-low l = record {
+  least : l.low ≤ l.high;
   within : l.high ≤ length l.strands;
   before : (w : Strand) → Among w (take l.low l.strands) → w.future < l.bound;
   after : (w : Strand) → Among w (drop l.high l.strands) → l.bound ≤ w.future;
