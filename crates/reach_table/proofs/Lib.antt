@@ -2,6 +2,8 @@ pub mod Members
 pub mod Rising
 pub mod Uniting
 pub mod Greatest
+pub mod Leaving
 pub mod Agreeing
+pub mod Putting
 pub mod Reaching
 pub mod Events

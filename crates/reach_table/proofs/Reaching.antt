@@ -128,12 +128,12 @@ loads_after before mid after h k = (h.0 ++ k.0, k.1 ∙ ap (λ l. l ++ k.0) h.1 
 
 -- a further strand that is not reached
 pub one_more : (english hebrew english' hebrew' : List ℕ) (x : ℕ) (ws : List Strand) (i : ℕ) (d : Strand) (answer : Bool) → i < length ws → english' ≡ english → hebrew' ≡ hebrew → (ReachesOne english hebrew x (take i ws) → ⊥) → (answer ≡ true) ↔ IsOrPrecedes english' hebrew' x (get_or ws i d).number → answer ≡ false → ReachesOne english hebrew x (take (i + 1) ws) → ⊥
-one_more english hebrew english' hebrew' x ws i d answer lt en he none iff no r =
+one_more english hebrew english' hebrew' x ws i d answer lt en he none iff off r =
     elim (in_more ws i d lt r.0 r.1) [
       | inl a ↦ none (r.0, a, r.2)
       | inr e ↦ (
           let P : List ℕ → Type 0 = λ l. IsOrPrecedes l hebrew' x (get_or ws i d).number in
           let Q : List ℕ → Type 0 = λ l. IsOrPrecedes english l x (get_or ws i d).number in
           let R : Strand → Type 0 = λ w. IsOrPrecedes english hebrew x w.number in
-          true≢false (sym (iff.1 (subst P (sym en) (subst Q (sym he) (subst R (sym e) r.2)))) ∙ no))
+          true≢false (sym (iff.1 (subst P (sym en) (subst Q (sym he) (subst R (sym e) r.2)))) ∙ off))
     ]
