@@ -69,17 +69,17 @@ AfterSync =
     → IsStrandOf s at → IsMergedOf s at.future (at.number ∷ lasts_of (reverse s) (block_of (reverse s) task)) table
     → HasTable (and_then s task at.number (Syncs strand)) strand table
 
--- a further event leaves the tables of strands that were there
+-- further events leave the tables of strands that were there
 abbrev pub TablesStay : Type 0
 TablesStay =
-    (s : List Event) (task at v : ℕ) (action : Action) (table : List Strand) → IsSound (and_then s task at action) → v < next_strand (reverse s)
-    → HasTable s v table → HasTable (and_then s task at action) v table
+    (s later : List Event) (v : ℕ) (table : List Strand) → IsSound (s ++ later) → v < next_strand (reverse s)
+    → HasTable s v table → HasTable (s ++ later) v table
 
--- the orders of some events agree with these, and so do those after one more
-abbrev pub OrdersAgreeBefore : Type 0
-OrdersAgreeBefore =
-    (s : List Event) (known task at : ℕ) (action : Action) (english hebrew : List ℕ) → IsSound (and_then s task at action)
-    → AreOrders (and_then s task at action) english hebrew → OrdersAgree s known english hebrew
+-- lists that are the orders after further events, or at once, have the strands that were there in their order
+abbrev pub OrdersStay : Type 0
+OrdersStay =
+    (s later : List Event) (known : ℕ) (english hebrew : List ℕ) → IsSound (s ++ later)
+    → AreOrders (s ++ later) english hebrew → OrdersAgree s known english hebrew
 
 -- a strand of another future reaches a strand exactly where a strand of its own future in the table is it, or is
 -- preceded by it

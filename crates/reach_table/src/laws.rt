@@ -1,5 +1,5 @@
 //! Laws of tables.
-ghost use Rattle.reach_table.specs.Tabled.{MergeBegins, AfterSync, TablesStay, OrdersAgreeBefore, TableTells, OneOfEach};
+ghost use Rattle.reach_table.specs.Tabled.{MergeBegins, AfterSync, TablesStay, OrdersStay, TableTells, OneOfEach};
 
 /// The same over the numbers of a definition's table.
 pub use strand_laws::laws::{table_has_one, table_means_path};
@@ -14,14 +14,14 @@ pub fn one_of_each()
     ensures { OneOfEach }
 {}
 
-/// A further event leaves the tables of strands that were there.
+/// Further events leave the tables of strands that were there.
 pub fn tables_stay()
     ensures { TablesStay }
 {}
 
-/// Lists that have the orders after a further event agree with the events before it.
-pub fn orders_agree_before()
-    ensures { OrdersAgreeBefore }
+/// Lists that are the orders after further events, or at once, have the strands that were there in their order.
+pub fn orders_stay()
+    ensures { OrdersStay }
 {}
 
 /// With the acting strand's table a sync's merging begins.

@@ -33,10 +33,10 @@ pub fn union(alloc: Global, one: &[Strand], other: &[Strand]) -> Result<Vec<Stra
             all.push(other[j])?;
             j += 1;
         } else {
+            all.push(one[i])?;
             if one[i] == other[j] {
                 j += 1;
             }
-            all.push(one[i])?;
             i += 1;
         }
     }
@@ -89,6 +89,19 @@ fn precedes_one(lists: &Still, at: Strand, strands: &[Strand]) -> bool
     false
 }
 
+// Whether one of these strands is not of future `own` and precedes no other one of its future.
+fn is_greatest(lists: &Still, own: u32, at: Strand, strands: &[Strand]) -> bool
+    requires at_among { Among at strands.now }
+    requires rising { IsRising strands.now }
+    requires strands_in { AllKnown (length lists.now.english.order) strands.now }
+    ensures { IsTrue result ↔ IsGreatest lists.now own strands.now at }
+{
+    if at.future == own {
+        return false;
+    }
+    !precedes_one(lists, at, of_future(strands, at.future))
+}
+
 /// The strands that are not of future `own` and do not precede another one of the same future.
 pub fn greatest(
     alloc: Global,
@@ -103,7 +116,7 @@ pub fn greatest(
 {
     let mut left = Vec::new(alloc);
     for w in strands {
-        if w.future != own && !precedes_one(lists, *w, of_future(strands, w.future)) {
+        if is_greatest(lists, own, *w, strands) {
             left.push(*w)?;
         }
     }
