@@ -3,6 +3,7 @@ use Rattle.std.proofs.Common.{◌≡◌, ℕ, ◌<◌, ◌≤◌, Bool, true, fa
 use Rattle.std.specs.Prelude.{Option, Some, None}
 use Rattle.fut_base.specs.declared.event.Event.{Event}
 use Rattle.fut_base.specs.Dag.{Among, ReachesBy, AreJoinedBy, edges_of}
+use Rattle.strand_laws.proofs.Places.{among_or, among_left, among_right}
 use Rattle.strand_tree.specs.declared.strand.Strand.{Strand}
 use Rattle.strand_tree.specs.Placing.{IsStrandOf}
 use Rattle.access_shards.specs.declared.kept.Access.{Access}
@@ -25,20 +26,6 @@ strong =
   where
     or_left : (b : Bool) → (true || b) ≡ true
     or_left b = refl
-
-pub among_or : {X : Type 0} → (x : X) (xs ys : List X) → Among x (xs ++ ys) → Among x xs ⊎ Among x ys
-among_or x [] ys h = inr h
-among_or x (z ∷ xs) ys (inl e) = inl (inl e)
-among_or x (z ∷ xs) ys (inr h) = elim (among_or x xs ys h) [ inl k ↦ inl (inr k) | inr k ↦ inr k ]
-
-pub among_left : {X : Type 0} → (x : X) (xs ys : List X) → Among x xs → Among x (xs ++ ys)
-among_left x [] ys h = absurd h
-among_left x (z ∷ xs) ys (inl e) = inl e
-among_left x (z ∷ xs) ys (inr h) = inr (among_left x xs ys h)
-
-pub among_right : {X : Type 0} → (x : X) (xs ys : List X) → Among x ys → Among x (xs ++ ys)
-among_right x [] ys h = h
-among_right x (z ∷ xs) ys h = inr (among_right x xs ys h)
 
 -- a list in order, and one more at its end
 pub in_order_more : (xs : List Access) (y : Access) → IsInOrder xs → ((a : Access) → Among a xs → a.place < y.place) → IsInOrder (xs ++ y ∷ [])

@@ -5,3 +5,5 @@ pub mod Looking
 pub mod Logging
 pub mod Greatest
 pub mod Growing
+pub mod Histories
+pub mod Pairs

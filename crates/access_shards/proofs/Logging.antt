@@ -13,7 +13,8 @@ use Rattle.access_shards.specs.Touches.{Touch}
 use Rattle.access_shards.specs.Kept.{Kind, reading, writing, kinds, Shows, IsInOrder, AreReaders, IsKept, IsViewOf, MayCome, AreKnown, KeepsOneMore, all_kept, touch}
 use Rattle.access_shards.specs.Finding.{AreOf, FindsLast, FindsApart, AllOnKnown}
 use Rattle.access_shards.proofs.Next.{pair_stays}
-use Rattle.access_shards.proofs.Keeping.{among_left, among_right, kept_in_order, strands_of, found_by_read, found_by_write, none_by_read, none_by_write, kept_by_read, kept_by_write, writer_stays}
+use Rattle.strand_laws.proofs.Places.{among_left, among_right}
+use Rattle.access_shards.proofs.Keeping.{kept_in_order, strands_of, found_by_read, found_by_write, none_by_read, none_by_write, kept_by_read, kept_by_write, writer_stays}
 
 order_left : (xs ys : List Access) → IsInOrder (xs ++ ys) → IsInOrder xs
 order_left [] ys h = tt

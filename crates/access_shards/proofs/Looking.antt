@@ -10,7 +10,8 @@ use Rattle.strand_tree.specs.declared.strand.Strand.{Strand}
 use Rattle.access_shards.specs.declared.kept.Access.{Access}
 use Rattle.access_shards.specs.Kept.{IsInOrder, IsViewOf}
 use Rattle.access_shards.specs.Finding.{IsApart, IsLastApart, AreOf, FindsLast, AreThoseApart, FindsApart, LooksOn, KeepsApart}
-use Rattle.access_shards.proofs.Keeping.{among_or, among_left, among_right, in_order_more, in_order_last}
+use Rattle.strand_laws.proofs.Places.{among_or, among_left, among_right}
+use Rattle.access_shards.proofs.Keeping.{in_order_more, in_order_last}
 
 module _ (table : List Strand) (at : Strand) (known : ℕ) (english hebrew : List ℕ) where
   shorter : (s : List Event) (xs : List Access) (a : Access) → AreOf s (xs ++ a ∷ []) → AreOf s xs

@@ -6,6 +6,7 @@
 
 mod finding;
 mod kept;
+pub mod laws;
 mod log;
 
 pub use kept::{Access, Accesses, Kept};

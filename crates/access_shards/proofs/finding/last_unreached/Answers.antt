@@ -3,7 +3,7 @@ use Rattle.std.proofs.lemmas.Result.{err_from_is_err_and}
 use Rattle.std.proofs.lemmas.List.{take_more}
 use Rattle.access_shards.specs.Kept.{all_kept}
 use Rattle.access_shards.specs.Finding.{FindsLast}
-use Rattle.access_shards.proofs.Keeping.{among_left, among_right}
+use Rattle.strand_laws.proofs.Places.{among_left, among_right}
 use Rattle.access_shards.proofs.Looking.{at_place, loads_on, moved_on, look_step, looks_at}
 use Rattle.access_shards.proofs.finding.last_unreached.Goals as goal
 
