@@ -10,10 +10,10 @@ use Rattle.access_shards.specs.declared.kept.Access.{Access}
 use Rattle.access_shards.specs.declared.kept.Kept.{Kept}
 use Rattle.access_shards.specs.declared.kept.Kept.TheVariants.{Clean, Found}
 use Rattle.access_shards.specs.Touches.{Touch}
-use Rattle.access_shards.specs.Kept.{Kind, reading, writing, kinds, Shows, IsInOrder, AreReaders, IsKept, IsViewOf, MayCome, AreKnown, KeepsOneMore, all_kept, touch}
+use Rattle.access_shards.specs.Kept.{Kind, reading, writing, kinds, Shows, IsInOrder, AreReaders, IsKept, IsViewOf, MayCome, AreKnown, StrandsStay, KeepsOneMore, all_kept, touch}
 use Rattle.access_shards.specs.Finding.{AreOf, FindsLast, FindsApart, AllOnKnown}
 use Rattle.access_shards.proofs.Next.{pair_stays}
-use Rattle.strand_laws.proofs.Places.{among_left, among_right}
+use Rattle.strand_laws.proofs.Places.{among_or, among_left, among_right}
 use Rattle.access_shards.proofs.Keeping.{kept_in_order, strands_of, found_by_read, found_by_write, none_by_read, none_by_write, kept_by_read, kept_by_write, writer_stays}
 
 order_left : (xs ys : List Access) → IsInOrder (xs ++ ys) → IsInOrder xs
@@ -99,3 +99,16 @@ module _ (table : List Strand) (at : Strand) (place : ℕ) (known : ℕ) (englis
           subst (AreReaders s (touch place at.number reading ∷ past)) (sym (items ∙ more))
           (kept_by_read s past at place reading may k.0 writer readers.items k.1 k.2 refl _ (shows_new s reading _ view refl) left (apart s view rest)),
         )
+
+-- whoever knows the strands of what was kept, and the new one, knows those that are kept after a read
+pub strands_stay : (at : Strand) (place : ℕ) (old : Kept) (writer : Option Access) (readers : Listed Access) → old ≡ Clean writer readers → (left : List Access) → ((a : Access) → Among a left → Among a readers.items) → (all : List Access) → all ≡ left ++ record { place = place; strand = at } ∷ [] → (new : Listed Access) → new.items ≡ all → StrandsStay at old (Clean writer new)
+strands_stay at place old writer readers is left some all more new items known lt was a h =
+    let k = subst (AreKnown known) is was in
+    elim (among_or a (option_to_list writer) new.items h) [
+      | inl l ↦ k a (among_left a (option_to_list writer) readers.items l)
+      | inr r ↦ elim (among_or a left (record { place = place; strand = at } ∷ []) (subst (λ l. Among a l) (items ∙ more) r)) [
+        | inl l ↦ k a (among_right a (option_to_list writer) readers.items (some a l))
+        | inr (inl e) ↦ subst (λ (z : Access). z.strand.number < known) e lt
+        | inr (inr n) ↦ absurd n
+      ]
+    ]

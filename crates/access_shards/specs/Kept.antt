@@ -76,6 +76,10 @@ abbrev pub AreKnown : ℕ → Kept → Type 0
 AreKnown known (Clean writer readers) = (a : Access) → Among a (all_kept writer readers.items) → a.strand.number < known
 AreKnown known (Found first second) = Unit {0}
 
+-- whoever knew the strands of what was kept, and knows one more, knows those of what is kept
+abbrev pub StrandsStay : Strand → Kept → Kept → Type 0
+StrandsStay at old new = (known : ℕ) → at.number < known → AreKnown known old → AreKnown known new
+
 -- for any structural events of which this is a view, and accesses of a cell after which one more may come: where the first
 -- was kept of them, the second is kept of them and that one
 abbrev pub KeepsOneMore : List Strand → Strand → ℕ → Kind → ℕ → List ℕ → List ℕ → Kept → Kept → Type 0

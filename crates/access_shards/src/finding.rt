@@ -1,5 +1,5 @@
 //! From which kept accesses a strand is not reached.
-ghost use Rattle.std.specs.Prelude.{◌≡◌, ℕ, ◌+◌, ◌<◌, ◌≤◌, List, [], ◌∷◌, ◌++◌, length, option_to_list, vec_len, vec_capacity, IfOk, IfErr, OnOk, OnErr};
+ghost use Rattle.std.specs.Prelude.{◌≡◌, ℕ, ◌+◌, ◌<◌, ◌≤◌, List, [], ◌∷◌, ◌++◌, ◌⊎◌, length, option_to_list, vec_len, vec_capacity, IfOk, IfErr, OnOk, OnErr};
 ghost use Rattle.fut_base.specs.Dag.{Among};
 ghost use Rattle.reach_table.specs.Telling.{AllKnown, HasMovedLast};
 ghost use Rattle.access_shards.specs.declared.kept.Access.{Access};
@@ -103,6 +103,7 @@ fn keep_unreached<J: Judge>(
     requires access_known { access.strand.number < J.known judge.old }
     requires room { vec_len left.old < vec_capacity left.old }
     ensures keeps { OnOk result (KeepsApart reach.now at (J.known judge.old) (J.english judge.old) (J.hebrew judge.old) access left.old.items left.new.items) }
+    ensures adds { (a : Access) → Among a left.new.items → Among a left.old.items ⊎ (access ≡ a) }
     ensures len { vec_len left.new ≤ vec_len left.old + 1 }
     ensures capacity { vec_capacity left.new ≡ vec_capacity left.old }
     ensures moved { IfErr result (λ moved. HasMovedLast moved (J.may_move judge.old) (J.loaded judge.old) (J.loaded judge.new)) }
@@ -133,6 +134,7 @@ fn collect_unreached<J: Judge>(
     requires empty { left.old.items ≡ [] }
     requires room { length readers.now ≤ vec_capacity left.old }
     ensures finds { OnOk result (FindsApart reach.now at (J.known judge.old) (J.english judge.old) (J.hebrew judge.old) readers.now left.new.items) }
+    ensures those { OnOk result ((a : Access) → Among a left.new.items → Among a readers.now) }
     ensures len { vec_len left.new ≤ length readers.now }
     ensures capacity { vec_capacity left.new ≡ vec_capacity left.old }
     ensures moved { IfErr result (λ moved. HasMovedLast moved (J.may_move judge.old) (J.loaded judge.old) (J.loaded judge.new)) }
@@ -164,6 +166,7 @@ pub fn take_unreached<J: Judge>(
     requires empty { left.old.items ≡ [] }
     requires room { length readers.now ≤ vec_capacity left.old }
     ensures finds { OnOk result (FindsApart reach.now at (J.known judge.old) (J.english judge.old) (J.hebrew judge.old) readers.now left.new.items) }
+    ensures those { OnOk result ((a : Access) → Among a left.new.items → Among a readers.now) }
     ensures len { vec_len left.new ≤ length readers.now }
     ensures capacity { vec_capacity left.new ≡ vec_capacity left.old }
     ensures none { OnErr result (left.new.items ≡ []) }

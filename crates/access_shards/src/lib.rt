@@ -8,6 +8,8 @@ mod finding;
 mod kept;
 pub mod laws;
 mod log;
+#[cfg(test)]
+mod tests;
 
 pub use kept::{Access, Accesses, Kept};
 pub use log::CellLog;

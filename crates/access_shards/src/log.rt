@@ -2,7 +2,7 @@
 ghost use Rattle.std.specs.Prelude.{◌≡◌, ℕ, ◌<◌, ◌++◌, List, [], None, OnOk, OnErr, IfErr};
 ghost use Rattle.reach_table.specs.Telling.{AllKnown, HasMovedLast};
 ghost use Rattle.access_shards.specs.declared.kept.Kept.{Kept};
-ghost use Rattle.access_shards.specs.Kept.{reading, writing, AreKnown, KeepsOneMore, IsNew};
+ghost use Rattle.access_shards.specs.Kept.{reading, writing, AreKnown, StrandsStay, KeepsOneMore, IsNew};
 ghost use Rattle.access_shards.specs.Logged.{HasRoom};
 
 use crate::finding::{last_unreached, take_unreached, unreached_writer};
@@ -85,6 +85,7 @@ impl CellLog {
         requires table_known { AllKnown (J.known judge.old) reach.now }
         requires kept_known { AreKnown (J.known judge.old) self.old.kept }
         ensures kept { OnOk result (KeepsOneMore reach.now at place reading (J.known judge.old) (J.english judge.old) (J.hebrew judge.old) self.old.kept self.new.kept) }
+        ensures strands { OnOk result (StrandsStay at self.old.kept self.new.kept) }
         ensures unchanged { OnErr result (self.new ≡ self.old) }
         ensures moved { IfErr result (λ moved. HasMovedLast moved (J.may_move judge.old) (J.loaded judge.old) (J.loaded judge.new)) }
 
@@ -130,6 +131,7 @@ impl CellLog {
         requires table_known { AllKnown (J.known judge.old) reach.now }
         requires kept_known { AreKnown (J.known judge.old) self.old.kept }
         ensures kept { OnOk result (KeepsOneMore reach.now at place writing (J.known judge.old) (J.english judge.old) (J.hebrew judge.old) self.old.kept self.new.kept) }
+        ensures strands { OnOk result (StrandsStay at self.old.kept self.new.kept) }
         ensures unchanged { OnErr result (self.new ≡ self.old) }
         ensures moved { IfErr result (λ moved. HasMovedLast moved (J.may_move judge.old) (J.loaded judge.old) (J.loaded judge.new)) }
 

@@ -1,4 +1,5 @@
-use Rattle.std.proofs.Common.{◌≡◌, ◌<◌, ◌∙◌, ◌+◌, ◌++◌, [], ◌∷◌, List, take, get_or, length, arith, ap, subst, sym}
+use Rattle.std.proofs.Common.{◌≡◌, ◌<◌, ◌∙◌, ◌+◌, ◌++◌, [], ◌∷◌, List, take, get_or, length, arith, ap, subst, sym, inl, inr}
+use Rattle.fut_base.specs.Dag.{Among}
 use Rattle.std.proofs.lemmas.Result.{err_from_is_err_and}
 use Rattle.std.proofs.lemmas.List.{take_more}
 use Rattle.access_shards.specs.Finding.{FindsApart}
@@ -31,4 +32,8 @@ loop-reader-preserved g c =
       e.hebrew ∙ i.6,
       e.may_move ∙ i.7,
       e.home ∙ i.8,
+      λ b h. elim (e.adds b h) [
+        | inl l ↦ i.9 b l
+        | inr q ↦ subst (λ z. Among z c.args.readers.now) q (at_place c.args.readers.now c.loop-reader.reader-index _ c.loop-reader-test.true)
+      ],
     )

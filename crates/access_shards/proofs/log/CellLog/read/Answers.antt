@@ -3,7 +3,7 @@ use Rattle.std.proofs.lemmas.Result.{err_from_is_err_and}
 use Rattle.fut_base.specs.Dag.{Among}
 use Rattle.access_shards.specs.Finding.{AllOnKnown, FindsLast, FindsApart}
 use Rattle.access_shards.proofs.Looking.{moved_on, finds_apart_at}
-use Rattle.access_shards.proofs.Logging.{known_writer, known_readers, found_stays, read_finds, read_keeps}
+use Rattle.access_shards.proofs.Logging.{known_writer, known_readers, found_stays, read_finds, read_keeps, strands_stay}
 use Rattle.access_shards.proofs.log.CellLog.read.Goals as goal
 
 pub unreached_writer-requires-clause-writer_known : goal.unreached_writer-requires-clause-writer_known
@@ -36,5 +36,12 @@ returns-clause-kept g c =
     c.take_unreached.new.left.items
     (subst (λ l. FindsApart c.args.reach.now c.args.at (g.J.Judge.known c.args.judge.now) (g.J.Judge.english c.args.judge.now) (g.J.Judge.hebrew c.args.judge.now) l c.take_unreached.new.left.items) c.as_slice.ensures
     (finds_apart_at c.args.reach.now c.args.at _ _ _ _ _ _ c.as_slice.result.now c.take_unreached.new.left.items e.known e.english e.hebrew c.in_ok-take_unreached.ensures.finds))
+    c.push_reserved.new.self.items c.push_reserved.ensures.items
+    c.from_vec-readers.result (ap (λ l. l.items) c.from_vec-readers.ensures ∙ ap (λ v. v.items) c.replace.ensures.value)
+
+pub returns-clause-strands : goal.returns-clause-strands
+returns-clause-strands g c =
+    strands_stay c.args.at c.args.place c.args.self.now.kept c.in-Clean.writer c.in-Clean.readers (ap (λ v. v.kept) (sym c.self.view_is) ∙ c.in-Clean.is)
+    c.take_unreached.new.left.items (λ a h. subst (λ l. Among a l) c.as_slice.ensures (c.in_ok-take_unreached.ensures.those a h))
     c.push_reserved.new.self.items c.push_reserved.ensures.items
     c.from_vec-readers.result (ap (λ l. l.items) c.from_vec-readers.ensures ∙ ap (λ v. v.items) c.replace.ensures.value)
