@@ -112,3 +112,11 @@ strands_stay at place old writer readers is left some all more new items known l
         | inr (inr n) ↦ absurd n
       ]
     ]
+
+-- of no accesses nothing is kept
+pub new_kept : (s : List Event) (readers : Listed Access) → readers.items ≡ [] → IsKept s [] (Clean None readers)
+new_kept s readers empty = (
+  (λ a b r. r.one),
+  (λ t h. absurd h),
+  subst (AreReaders s []) (sym empty) (record { each = λ a h. absurd h; whole = λ t l. absurd l.there; order = tt }),
+)

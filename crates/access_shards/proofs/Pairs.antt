@@ -8,10 +8,12 @@ use Rattle.fut_base.specs.Dag.{Among, edges_of, AreJoined, AreJoinedBy}
 use Rattle.fut_base.specs.Racing.{IsAccess, IsWrite, PlacesRace}
 use Rattle.fut_base.specs.Racing as racing
 use Rattle.strand_laws.proofs.Places.{by_eq}
+use Rattle.strand_laws.proofs.Structure.{structure_has_edges}
+use Rattle.access_shards.specs.declared.kept.Kept.TheVariants.{Clean, Found}
 use Rattle.access_shards.specs.Touches.{Touch, AreRacing, IsFirstPair}
 use Rattle.access_shards.specs.Kept.{Kind, reading, writing, is_write, kinds, touch}
 use Rattle.access_shards.specs.Histories.{kind_of, touches_of}
-use Rattle.access_shards.specs.Laws.{RacesAreOfAccesses, FirstPairIsOfAccesses}
+use Rattle.access_shards.specs.Laws.{RacesAreOfAccesses, FirstPairIsOfAccesses, KeptTellsRaces}
 use Rattle.access_shards.proofs.Histories.{Stood, touch_stood, stood_touch, stood_of, get_of}
 
 no_kind : (k : Kind) → ◌≡◌ {A = Option Kind} None (Some k) → ⊥
@@ -130,3 +132,9 @@ races_are_of_accesses h c i j = ((λ r. to_accesses h c i j r), λ f. back h c i
 
 pub first_pair_is_of_accesses : FirstPairIsOfAccesses
 first_pair_is_of_accesses h c i j = ((λ p. pair_to_accesses h c i j p), λ p. pair_to_history h c i j p)
+
+pub kept_tells_races : KeptTellsRaces
+kept_tells_races h c (Clean writer readers) k = λ i j r. (
+  let f = to_accesses h c i j r in
+  k.0 f.0 f.1 (subst (λ es. AreRacing Kind kinds es (touches_of c h) f.0 f.1) (sym (structure_has_edges h)) f.2))
+kept_tells_races h c (Found first second) k = pair_to_history h c first second (subst (λ es. IsFirstPair Kind kinds es (touches_of c h) first second) (structure_has_edges h) k)

@@ -8,6 +8,7 @@ use Rattle.fut_base.specs.Racing.{PlacesRace}
 use Rattle.fut_base.specs.Racing as racing
 use Rattle.strand_tree.specs.declared.strand.Strand.{Strand}
 use Rattle.access_shards.specs.declared.kept.Kept.{Kept}
+use Rattle.access_shards.specs.declared.kept.Kept.TheVariants.{Clean, Found}
 use Rattle.access_shards.specs.Touches.{Touch, Kinds, WritesConflict, IsRising, IsLate, AreRacing, HasNoRace, IsFirstPair, MustBeKept, IsGreatestPartner}
 use Rattle.access_shards.specs.Kept.{Kind, kinds, IsKept, MayCome, touch}
 use Rattle.access_shards.specs.Histories.{touches_of, IsInStep}
@@ -58,3 +59,11 @@ RacesAreOfAccesses =
 -- the first pair of a cell's accesses is that of the history
 abbrev pub FirstPairIsOfAccesses : Type 0
 FirstPairIsOfAccesses = (h : List Event) (c i j : ℕ) → racing.IsFirstPair h c i j ↔ IsFirstPair Kind kinds (edges_of h) (touches_of c h) i j
+
+-- what is kept of a cell's accesses tells its races in the history: none, or the first pair
+abbrev pub TellsRaces : List Event → ℕ → Kept → Type 0
+TellsRaces h c (Clean writer readers) = (i j : ℕ) → PlacesRace h c i j → ⊥
+TellsRaces h c (Found first second) = racing.IsFirstPair h c first second
+
+abbrev pub KeptTellsRaces : Type 0
+KeptTellsRaces = (h : List Event) (c : ℕ) (kept : Kept) → IsKept (structure_of h) (touches_of c h) kept → TellsRaces h c kept

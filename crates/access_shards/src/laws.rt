@@ -2,7 +2,7 @@
 ghost use Rattle.std.specs.Prelude.{ℕ};
 ghost use Rattle.access_shards.specs.Touches.{Kinds};
 ghost use Rattle.access_shards.specs.Kept.{Kind, kinds};
-ghost use Rattle.access_shards.specs.Laws.{KeptIsEnough, KeptStays, LateStays, CurrentMayCome, NoPathBack, AccessesAreLate, RacesAreOfAccesses, FirstPairIsOfAccesses};
+ghost use Rattle.access_shards.specs.Laws.{KeptIsEnough, KeptStays, LateStays, CurrentMayCome, NoPathBack, AccessesAreLate, RacesAreOfAccesses, FirstPairIsOfAccesses, KeptTellsRaces};
 
 /// While there was no race, the greatest partner of a further access is the greatest one of those that must be kept. The
 /// kinds of access are any numbers here: all that the law asks of them is that a write conflicts with each.
@@ -48,4 +48,9 @@ pub fn races_are_of_accesses()
 /// The first pair of a cell's accesses is that of the history.
 pub fn first_pair_is_of_accesses()
     ensures { FirstPairIsOfAccesses }
+{}
+
+/// What is kept of a cell's accesses tells whether the cell has a race in the history, and its first pair.
+pub fn kept_tells_races()
+    ensures { KeptTellsRaces }
 {}

@@ -2,7 +2,8 @@
 ghost use Rattle.std.specs.Prelude.{◌≡◌, ℕ, ◌<◌, ◌++◌, List, [], None, OnOk, OnErr, IfErr};
 ghost use Rattle.reach_table.specs.Telling.{AllKnown, HasMovedLast};
 ghost use Rattle.access_shards.specs.declared.kept.Kept.{Kept};
-ghost use Rattle.access_shards.specs.Kept.{reading, writing, AreKnown, StrandsStay, KeepsOneMore, IsNew};
+ghost use Rattle.access_shards.specs.Kept.{reading, writing, AreKnown, StrandsStay, IsKept, KeepsOneMore, IsNew};
+ghost use Rattle.fut_base.specs.declared.event.Event.{Event};
 ghost use Rattle.access_shards.specs.Logged.{HasRoom};
 
 use crate::finding::{last_unreached, take_unreached, unreached_writer};
@@ -38,7 +39,8 @@ impl Model for CellLog {
 impl CellLog {
     /// The log of a cell without accesses. It takes no memory.
     pub fn make(alloc: Global) -> CellLog
-        ensures { IsNew result.kept }
+        ensures new { IsNew result.kept }
+        ensures kept { (s : List Event) → IsKept s [] result.kept }
     {
         CellLog {
             alloc,
