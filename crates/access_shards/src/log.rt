@@ -52,7 +52,7 @@ impl CellLog {
         }
     }
 
-    /// Makes room for one more access.
+    /// Makes room for one more access, which a read or a write asks for.
     pub fn reserve(&mut self) -> Result<(), NoMemory>
         ensures kept { self.new.kept ≡ self.old.kept }
         ensures room { OnOk result (HasRoom self.new) }
@@ -73,8 +73,9 @@ impl CellLog {
         &self.kept
     }
 
-    /// Keeps a read on strand `at`, whose table `reach` is. It asks the judge at most once for each kept access, and
-    /// takes no memory.
+    /// Keeps a read at a place above all earlier ones, on strand `at`, whose table `reach` is. It tries at most once for
+    /// each kept access whether a path leads from it, and takes no memory. After `Moved` nothing is changed, and the
+    /// room still stands.
     pub fn read<J: Judge>(
         &mut self,
         judge: &mut J,
@@ -119,8 +120,9 @@ impl CellLog {
         Ok(())
     }
 
-    /// Keeps a write on strand `at`, whose table `reach` is. It asks the judge once for each kept access, and takes no
-    /// memory.
+    /// Keeps a write at a place above all earlier ones, on strand `at`, whose table `reach` is. It tries at most once for
+    /// each kept access whether a path leads from it, and takes no memory. After `Moved` nothing is changed, and the
+    /// room still stands.
     pub fn write<J: Judge>(
         &mut self,
         judge: &mut J,
