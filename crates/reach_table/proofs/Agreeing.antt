@@ -48,7 +48,7 @@ module _ (s : List Event) (sound : IsSound s) (lists : Lists) (own known : ℕ) 
         among = a;
         foreign = λ e. t.foreign (sym (home w a) ∙ e);
         greatest = λ x b h ne. agree s known lists.english.order lists.hebrew.order orders w.number x.number (known_of w a) (known_of x b) (λ e. ne (sym e))
-          ∙ t.top x.number (numbered x ws b) (sym (home x b) ∙ h ∙ home w a);
+            ∙ t.top x.number (numbered x ws b) (sym (home x b) ∙ h ∙ home w a);
       }
 
   pub kept_is_max : (table : List Strand) → ((w : Strand) → Among w table ↔ IsGreatest lists own ws w) → (x : ℕ) → Among x (map number_of table) ↔ Among x (maximal (reverse s) own (map number_of ws))

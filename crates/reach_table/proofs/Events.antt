@@ -386,11 +386,11 @@ same_before : (n : ℕ) (xs ys : List ℕ) (x y : ℕ) → Keeps n (λ v. place 
 same_before n xs ys x y keeps lx ly ne ax ay =
     same_bool _ _
     (λ p. (
-        let k = before_place x y ys ne p in
-        elim (lt_or_le (place x xs) (place y xs)) [
-          | inl l ↦ place_before x y xs ax l
-          | inr g ↦ absurd (let j = keeps.le y x ly lx g in omega (arith, k, j))
-        ]))
+    let k = before_place x y ys ne p in
+    elim (lt_or_le (place x xs) (place y xs)) [
+      | inl l ↦ place_before x y xs ax l
+      | inr g ↦ absurd (let j = keeps.le y x ly lx g in omega (arith, k, j))
+    ]))
     (λ p. place_before x y ys ay (keeps.lt x y lx ly (before_place x y xs ne p)))
 
 module _ (x y : ℕ) (ne : x ≢ y) where

@@ -134,10 +134,10 @@ module _ (past : List Event) (own : ℕ) (xs : List ℕ) where
   max_of_top x t =
       let o = filter_in (λ u. not (home_of past u == own)) x xs t.among (not_true _ (off_eq _ own t.foreign)) in
       once_in x _ (filter_in (λ u. not (beaten u)) x others o (not_true _ (false_if _ (λ e. (
-          let k = any_of (λ w. (home_of past w == home_of past x) && precedes_past past x w) others e in
-          let g = filter_out (λ u. not (home_of past u == own)) k.0 xs k.1 in
-          let c = and_split (home_of past k.0 == home_of past x) (precedes_past past x k.0) k.2 in
-          absurd (true≢false (sym c.1 ∙ t.top k.0 g.0 (is_eq _ _ c.0))))))))
+      let k = any_of (λ w. (home_of past w == home_of past x) && precedes_past past x w) others e in
+      let g = filter_out (λ u. not (home_of past u == own)) k.0 xs k.1 in
+      let c = and_split (home_of past k.0 == home_of past x) (precedes_past past x k.0) k.2 in
+      absurd (true≢false (sym c.1 ∙ t.top k.0 g.0 (is_eq _ _ c.0))))))))
 
 -- the same strands in another list
 pub top_same : (past : List Event) (own : ℕ) (xs ys : List ℕ) → ((z : ℕ) → Among z xs → Among z ys) → ((z : ℕ) → Among z ys → Among z xs) → (x : ℕ) → IsTop past own xs x → IsTop past own ys x
