@@ -1,18 +1,18 @@
 -- Lists that have strands in the order of some events.
-use Rattle.std.proofs.Common.{◌≡◌, ◌≢◌, ℕ, ◌+◌, ◌<◌, ◌≤◌, Bool, true, false, ◌&&◌, List, [], ◌∷◌, ◌++◌, map, reverse, inl, inr, subst, ap, sym, refl, ◌∙◌, true≢false, arith}
+use Rattle.std.proofs.Common.{◌≡◌, ◌≢◌, ℕ, true, false, ◌&&◌, List, map, reverse, inl, inr, subst, ap, sym, ◌∙◌}
 use Rattle.std.specs.Prelude.{◌↔◌}
 use Rattle.order_list.specs.Sides.{Lists}
 use Rattle.fut_base.specs.declared.event.Event.{Event}
 use Rattle.fut_base.specs.Dag.{Among}
-use Rattle.fut_base.specs.Orders.{stands_before, precedes_past, english_of, hebrew_of}
-use Rattle.fut_base.specs.Sound.{IsSound, next_strand, home_of}
+use Rattle.fut_base.specs.Orders.{stands_before, precedes_past, english_of}
+use Rattle.fut_base.specs.Sound.{IsSound, home_of}
 use Rattle.fut_base.specs.Tables.{maximal}
 use Rattle.strand_laws.proofs.Places.{same_or_not}
 use Rattle.strand_laws.proofs.Doubles.{not_before_self}
 use Rattle.strand_tree.specs.declared.strand.Strand.{Strand}
 use Rattle.strand_tree.specs.Placing.{IsStrandOf}
 use Rattle.reach_table.specs.Telling.{number_of, IsKnownOf, OrdersAgree, AllKnown}
-use Rattle.reach_table.specs.Merging.{precedes_in, IsGreatest}
+use Rattle.reach_table.specs.Merging.{IsGreatest}
 use Rattle.reach_table.proofs.Members.{of_number, numbered}
 use Rattle.reach_table.proofs.Greatest.{IsTop, top_of_max, max_of_top, false_if}
 

@@ -1,5 +1,5 @@
 -- Members of lists.
-use Rattle.std.proofs.Common.{◌≡◌, ℕ, zero, suc, ◌+◌, ◌-◌, ◌<◌, ◌≤◌, Bool, true, false, ◌&&◌, ◌==◌, ◌≢◌, true≢false, List, [], ◌∷◌, ◌++◌, length, get_or, take, drop, map, flat_map, ◌⊎◌, inl, inr, subst, ap, sym, refl, ◌∙◌, arith}
+use Rattle.std.proofs.Common.{◌≡◌, ℕ, zero, suc, ◌+◌, ◌<◌, Bool, true, false, ◌&&◌, ◌==◌, ◌≢◌, true≢false, List, [], ◌∷◌, length, get_or, take, drop, map, flat_map, ◌⊎◌, inl, inr, subst, ap, sym, refl, ◌∙◌, arith}
 use Rattle.std.proofs.lemmas.List.{take-append-drop, take_more}
 use Rattle.fut_base.specs.Dag.{Among}
 use Rattle.strand_laws.proofs.Places.{by_eq, among_or, among_left, among_right}

@@ -1,11 +1,11 @@
 -- What lists that are put together have.
-use Rattle.std.proofs.Common.{◌≡◌, ◌≢◌, ℕ, ◌<◌, List, [], ◌∷◌, ◌++◌, inl, inr, subst, ap, sym, refl, ◌∙◌}
+use Rattle.std.proofs.Common.{◌≡◌, ℕ, ◌<◌, List, [], ◌∷◌, ◌++◌, inl, inr, subst, sym, refl}
 use Rattle.std.specs.Prelude.{◌↔◌, ◌⊎◌, Option, Some, None}
 use Rattle.order_list.specs.Sides.{Lists}
 use Rattle.fut_base.specs.Dag.{Among}
 use Rattle.strand_laws.proofs.Places.{among_or, among_left, among_right}
 use Rattle.strand_tree.specs.declared.strand.Strand.{Strand}
-use Rattle.reach_table.specs.Merging.{together, listed, IsGreatest}
+use Rattle.reach_table.specs.Merging.{together, IsGreatest}
 
 pub put : (ones one other all : List Strand) → ones ≡ one → ((w : Strand) → Among w all ↔ (Among w ones ⊎ Among w other)) → (w : Strand) → Among w all ↔ Among w (one ++ other)
 put ones one other all is iff w = (

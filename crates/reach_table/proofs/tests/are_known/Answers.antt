@@ -1,4 +1,4 @@
-use Rattle.std.proofs.Common.{◌≡◌, ℕ, ◌<◌, List, length, take, subst, rules, arith}
+use Rattle.std.proofs.Common.{◌≡◌, ℕ, ◌<◌, List, length, subst, rules, arith}
 use Rattle.std.proofs.lemmas.List.{take_all}
 use Rattle.fut_base.specs.Dag.{Among}
 use Rattle.strand_tree.specs.declared.strand.Strand.{Strand}

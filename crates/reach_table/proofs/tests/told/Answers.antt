@@ -1,4 +1,4 @@
-use Rattle.std.proofs.Common.{◌<◌, List, length, subst}
+use Rattle.std.proofs.Common.{List, length, subst}
 use Rattle.strand_tree.specs.declared.strand.Strand.{Strand}
 use Rattle.reach_table.specs.Telling.{AllKnown}
 use Rattle.reach_table.proofs.tests.told.Goals as goal
