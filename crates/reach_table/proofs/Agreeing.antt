@@ -1,18 +1,18 @@
 -- Lists that have strands in the order of some events.
-use Rattle.std.proofs.Common.{◌≡◌, ◌≢◌, ℕ, ◌+◌, ◌<◌, ◌≤◌, Bool, true, false, ◌&&◌, List, [], ◌∷◌, ◌++◌, map, reverse, inl, inr, subst, ap, sym, refl, ◌∙◌, true≢false, arith}
+use Rattle.std.proofs.Common.{◌≡◌, ◌≢◌, ℕ, true, false, ◌&&◌, List, map, reverse, inl, inr, subst, ap, sym, ◌∙◌}
 use Rattle.std.specs.Prelude.{◌↔◌}
 use Rattle.order_list.specs.Sides.{Lists}
 use Rattle.fut_base.specs.declared.event.Event.{Event}
 use Rattle.fut_base.specs.Dag.{Among}
-use Rattle.fut_base.specs.Orders.{stands_before, precedes_past, english_of, hebrew_of}
-use Rattle.fut_base.specs.Sound.{IsSound, next_strand, home_of}
+use Rattle.fut_base.specs.Orders.{stands_before, precedes_past, english_of}
+use Rattle.fut_base.specs.Sound.{IsSound, home_of}
 use Rattle.fut_base.specs.Tables.{maximal}
 use Rattle.strand_laws.proofs.Places.{same_or_not}
 use Rattle.strand_laws.proofs.Doubles.{not_before_self}
 use Rattle.strand_tree.specs.declared.strand.Strand.{Strand}
 use Rattle.strand_tree.specs.Placing.{IsStrandOf}
 use Rattle.reach_table.specs.Telling.{number_of, IsKnownOf, OrdersAgree, AllKnown}
-use Rattle.reach_table.specs.Merging.{precedes_in, IsGreatest}
+use Rattle.reach_table.specs.Merging.{IsGreatest}
 use Rattle.reach_table.proofs.Members.{of_number, numbered}
 use Rattle.reach_table.proofs.Greatest.{IsTop, top_of_max, max_of_top, false_if}
 
@@ -48,7 +48,7 @@ module _ (s : List Event) (sound : IsSound s) (lists : Lists) (own known : ℕ) 
         among = a;
         foreign = λ e. t.foreign (sym (home w a) ∙ e);
         greatest = λ x b h ne. agree s known lists.english.order lists.hebrew.order orders w.number x.number (known_of w a) (known_of x b) (λ e. ne (sym e))
-          ∙ t.top x.number (numbered x ws b) (sym (home x b) ∙ h ∙ home w a);
+            ∙ t.top x.number (numbered x ws b) (sym (home x b) ∙ h ∙ home w a);
       }
 
   pub kept_is_max : (table : List Strand) → ((w : Strand) → Among w table ↔ IsGreatest lists own ws w) → (x : ℕ) → Among x (map number_of table) ↔ Among x (maximal (reverse s) own (map number_of ws))

@@ -1,18 +1,17 @@
 -- Tables after one more event.
-use Rattle.std.proofs.Common.{◌≡◌, ◌≢◌, ℕ, ◌+◌, ◌<◌, ◌≤◌, Bool, true, false, ◌&&◌, ◌||◌, List, [], ◌∷◌, ◌++◌, map, flat_map, length, reverse, inl, inr, ◌⊎◌, subst, ap, sym, refl, ◌∙◌, true≢false, arith, ◌==◌, if◌then◌else◌}
+use Rattle.std.proofs.Common.{◌≡◌, ◌≢◌, ℕ, ◌+◌, ◌<◌, ◌≤◌, Bool, true, false, List, [], ◌∷◌, ◌++◌, map, flat_map, length, reverse, inl, inr, ◌⊎◌, subst, ap, sym, refl, ◌∙◌, arith, ◌==◌, if◌then◌else◌}
 use Rattle.std.specs.Prelude.{◌↔◌, Option, Some, None}
 use Rattle.std.specs.List.{cons_option}
-use Rattle.std.proofs.lemmas.List.{reverse-append, append-nil}
+use Rattle.std.proofs.lemmas.List.{reverse-append}
 use Rattle.order_list.specs.Sides.{Lists}
-use Rattle.fut_base.specs.declared.record.Value.{Value}
 use Rattle.fut_base.specs.declared.event.Event.{Event}
 use Rattle.fut_base.specs.declared.event.Action.{Action}
 use Rattle.fut_base.specs.declared.event.Action.TheVariants.{Reads, Writes, Spawns, Creates, Syncs, Gets, Ends}
-use Rattle.fut_base.specs.Dag.{Among, block_of, last_of}
-use Rattle.fut_base.specs.Orders.{precedes_past, stands_before, english_past, hebrew_past, english_of, hebrew_of}
+use Rattle.fut_base.specs.Dag.{Among, block_of}
+use Rattle.fut_base.specs.Orders.{precedes_past, stands_before, english_past, hebrew_past}
 use Rattle.fut_base.specs.Sound.{IsSound, IsSoundPast, MayFollow, next_strand, future_of, home_of}
 use Rattle.fut_base.specs.Tables.{table_past, maximal, lasts_of}
-use Rattle.strand_laws.proofs.Places.{same_or_not, among_or, among_left, among_right, place, before_place, place_before}
+use Rattle.strand_laws.proofs.Places.{among_or, among_left, among_right, place, before_place, place_before}
 use Rattle.strand_laws.proofs.Worlds.{Keeps, lt_or_le}
 use Rattle.strand_laws.proofs.Links.{ev, if_self, if_off}
 use Rattle.strand_laws.proofs.Sources.{or_off, or_left, or_right, home_old, grows_next, whole_en, whole_he}
@@ -21,12 +20,12 @@ use Rattle.strand_laws.proofs.Doubles.{not_before_self}
 use Rattle.strand_laws.proofs.Inside.{far_of_precedes}
 use Rattle.strand_laws.proofs.Tabling.{TabOf, table_of}
 use Rattle.strand_tree.specs.declared.strand.Strand.{Strand}
-use Rattle.strand_tree.specs.Placing.{IsStrandOf, AreOrders}
-use Rattle.reach_table.specs.Telling.{number_of, HasTable, IsKnownOf, OrdersAgree, AllKnown}
-use Rattle.reach_table.specs.Merging.{together, listed, IsGreatest, IsMergedOf}
+use Rattle.strand_tree.specs.Placing.{IsStrandOf}
+use Rattle.reach_table.specs.Telling.{number_of, HasTable, AllKnown}
+use Rattle.reach_table.specs.Merging.{together, listed, IsGreatest}
 use Rattle.reach_table.specs.Tabled.{and_then, AfterSpawn, AfterCreate, KidAfterCreate, AfterGet, MergesOneMore, MergeBegins, AfterSync, TablesStay, OrdersStay}
 use Rattle.reach_table.proofs.Members.{of_number, numbered, flat_in, flat_out}
-use Rattle.reach_table.proofs.Greatest.{IsTop, top_of_max, max_of_top, max_same, top_same, false_if, again, at_once}
+use Rattle.reach_table.proofs.Greatest.{top_of_max, max_of_top, max_same, false_if, again, at_once}
 use Rattle.reach_table.proofs.Agreeing.{kept_is_max}
 
 -- the strands of the list are the table of v, with the newest event first
@@ -386,11 +385,11 @@ same_before : (n : ℕ) (xs ys : List ℕ) (x y : ℕ) → Keeps n (λ v. place 
 same_before n xs ys x y keeps lx ly ne ax ay =
     same_bool _ _
     (λ p. (
-        let k = before_place x y ys ne p in
-        elim (lt_or_le (place x xs) (place y xs)) [
-          | inl l ↦ place_before x y xs ax l
-          | inr g ↦ absurd (let j = keeps.le y x ly lx g in omega (arith, k, j))
-        ]))
+    let k = before_place x y ys ne p in
+    elim (lt_or_le (place x xs) (place y xs)) [
+      | inl l ↦ place_before x y xs ax l
+      | inr g ↦ absurd (let j = keeps.le y x ly lx g in omega (arith, k, j))
+    ]))
     (λ p. place_before x y ys ay (keeps.lt x y lx ly (before_place x y xs ne p)))
 
 module _ (x y : ℕ) (ne : x ≢ y) where

@@ -1,5 +1,5 @@
 -- The strands that a definition's table keeps, said by its members, and keeping again what was kept.
-use Rattle.std.proofs.Common.{◌≡◌, ◌≢◌, ℕ, ◌+◌, ◌<◌, ◌≤◌, Bool, true, false, not, ◌&&◌, ◌||◌, List, [], ◌∷◌, ◌++◌, ◌⊎◌, inl, inr, subst, ap, sym, refl, ◌∙◌, true≢false, arith, ◌==◌, if◌then◌else◌, filter, cond}
+use Rattle.std.proofs.Common.{◌≡◌, ◌≢◌, ℕ, ◌<◌, ◌≤◌, Bool, true, false, not, ◌&&◌, ◌||◌, List, [], ◌∷◌, ◌++◌, ◌⊎◌, inl, inr, subst, ap, sym, refl, ◌∙◌, true≢false, arith, ◌==◌, if◌then◌else◌, filter, cond}
 use Rattle.std.specs.Prelude.{◌↔◌}
 use Rattle.std.specs.List.{list_any}
 use Rattle.fut_base.specs.declared.event.Event.{Event}
@@ -7,14 +7,14 @@ use Rattle.fut_base.specs.Dag.{Among}
 use Rattle.fut_base.specs.Orders.{precedes_past, is_in}
 use Rattle.fut_base.specs.Sound.{IsSoundPast, next_strand, home_of}
 use Rattle.fut_base.specs.Tables.{once_each, maximal}
-use Rattle.strand_laws.proofs.Places.{by_eq, same_or_not, in_among, among_in, among_or, among_left, among_right}
+use Rattle.strand_laws.proofs.Places.{by_eq, in_among, among_or, among_left, among_right}
 use Rattle.strand_laws.proofs.Far.{Far, far_refl}
 use Rattle.strand_laws.proofs.Frames.{inner_layers}
 use Rattle.strand_laws.proofs.Steps.{basics}
 use Rattle.strand_laws.proofs.Held.{and_split, is_eq, or_split}
 use Rattle.strand_laws.proofs.Inside.{far_of_precedes, precedes_of_far}
 use Rattle.strand_laws.proofs.Doubles.{not_before_self}
-use Rattle.strand_laws.proofs.Tabling.{Cov, red}
+use Rattle.strand_laws.proofs.Tabling.{red}
 
 -- a strand of the list that is not of future `own` and precedes no other one of its future there
 pub record IsTop (past : List Event) (own : ℕ) (xs : List ℕ) (x : ℕ) : Type 0 where
@@ -134,10 +134,10 @@ module _ (past : List Event) (own : ℕ) (xs : List ℕ) where
   max_of_top x t =
       let o = filter_in (λ u. not (home_of past u == own)) x xs t.among (not_true _ (off_eq _ own t.foreign)) in
       once_in x _ (filter_in (λ u. not (beaten u)) x others o (not_true _ (false_if _ (λ e. (
-          let k = any_of (λ w. (home_of past w == home_of past x) && precedes_past past x w) others e in
-          let g = filter_out (λ u. not (home_of past u == own)) k.0 xs k.1 in
-          let c = and_split (home_of past k.0 == home_of past x) (precedes_past past x k.0) k.2 in
-          absurd (true≢false (sym c.1 ∙ t.top k.0 g.0 (is_eq _ _ c.0))))))))
+      let k = any_of (λ w. (home_of past w == home_of past x) && precedes_past past x w) others e in
+      let g = filter_out (λ u. not (home_of past u == own)) k.0 xs k.1 in
+      let c = and_split (home_of past k.0 == home_of past x) (precedes_past past x k.0) k.2 in
+      absurd (true≢false (sym c.1 ∙ t.top k.0 g.0 (is_eq _ _ c.0))))))))
 
 -- the same strands in another list
 pub top_same : (past : List Event) (own : ℕ) (xs ys : List ℕ) → ((z : ℕ) → Among z xs → Among z ys) → ((z : ℕ) → Among z ys → Among z xs) → (x : ℕ) → IsTop past own xs x → IsTop past own ys x

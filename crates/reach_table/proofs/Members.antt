@@ -1,5 +1,5 @@
 -- Members of lists.
-use Rattle.std.proofs.Common.{◌≡◌, ℕ, zero, suc, ◌+◌, ◌-◌, ◌<◌, ◌≤◌, Bool, true, false, ◌&&◌, ◌==◌, ◌≢◌, true≢false, List, [], ◌∷◌, ◌++◌, length, get_or, take, drop, map, flat_map, ◌⊎◌, inl, inr, subst, ap, sym, refl, ◌∙◌, arith}
+use Rattle.std.proofs.Common.{◌≡◌, ℕ, zero, suc, ◌+◌, ◌<◌, Bool, true, false, ◌&&◌, ◌==◌, ◌≢◌, true≢false, List, [], ◌∷◌, length, get_or, take, drop, map, flat_map, ◌⊎◌, inl, inr, subst, ap, sym, refl, ◌∙◌, arith}
 use Rattle.std.proofs.lemmas.List.{take-append-drop, take_more}
 use Rattle.fut_base.specs.Dag.{Among}
 use Rattle.strand_laws.proofs.Places.{by_eq, among_or, among_left, among_right}
@@ -78,3 +78,9 @@ unequal_strands x y b is no_b e =
     let P : Strand → Type 0 = λ z. ((x.number == z.number) && (x.future == z.future)) ≡ true in
     let h : P y = subst P e (both_true _ _ (self x.number) (self x.future)) in
     true≢false (sym h ∙ sym is ∙ no_b)
+
+-- one more strand that is known
+pub known_more : (known : ℕ) (ws : List Strand) (i : ℕ) (d : Strand) → i < length ws → ((w : Strand) → Among w (take i ws) → w.number < known) → (get_or ws i d).number < known → (w : Strand) → Among w (take (i + 1) ws) → w.number < known
+known_more known ws i d lt all here w a =
+    let P : Strand → Type 0 = λ z. z.number < known in
+    elim (in_more ws i d lt w a) [ inl l ↦ all w l | inr e ↦ subst P e here ]

@@ -1,11 +1,11 @@
 -- What lists that are put together have.
-use Rattle.std.proofs.Common.{◌≡◌, ◌≢◌, ℕ, List, [], ◌∷◌, ◌++◌, inl, inr, subst, ap, sym, refl, ◌∙◌}
+use Rattle.std.proofs.Common.{◌≡◌, ℕ, ◌<◌, List, [], ◌∷◌, ◌++◌, inl, inr, subst, sym, refl}
 use Rattle.std.specs.Prelude.{◌↔◌, ◌⊎◌, Option, Some, None}
 use Rattle.order_list.specs.Sides.{Lists}
 use Rattle.fut_base.specs.Dag.{Among}
 use Rattle.strand_laws.proofs.Places.{among_or, among_left, among_right}
 use Rattle.strand_tree.specs.declared.strand.Strand.{Strand}
-use Rattle.reach_table.specs.Merging.{together, listed, IsGreatest}
+use Rattle.reach_table.specs.Merging.{together, IsGreatest}
 
 pub put : (ones one other all : List Strand) → ones ≡ one → ((w : Strand) → Among w all ↔ (Among w ones ⊎ Among w other)) → (w : Strand) → Among w all ↔ Among w (one ++ other)
 put ones one other all is iff w = (
@@ -58,3 +58,13 @@ all_in last one one' other other' all all' is_one is_other iff is_all w a =
     let P : List Strand → Type 0 = λ l. Among w (together l other' last) in
     let Q : List Strand → Type 0 = λ l. Among w (together one l last) in
     subst Q is_other (subst P is_one ((iff w).0 (subst (λ l. Among w l) is_all a)))
+
+-- all strands that are put together are known
+pub all_together : (known : ℕ) (one other : List Strand) (v : Strand) → ((w : Strand) → Among w one → w.number < known) → ((w : Strand) → Among w other → w.number < known) → v.number < known → (w : Strand) → Among w (together one other (Some v)) → w.number < known
+all_together known one other v first second here w a =
+    let P : Strand → Type 0 = λ z. z.number < known in
+    elim (among_or w (one ++ other) (v ∷ []) a) [
+      | inl l ↦ elim (among_or w one other l) [ inl k ↦ first w k | inr k ↦ second w k ]
+      | inr (inl e) ↦ subst P e here
+      | inr (inr k) ↦ absurd k
+    ]

@@ -1,14 +1,14 @@
 -- What an answer tells of paths.
-use Rattle.std.proofs.Common.{◌≡◌, ◌≢◌, ℕ, ◌+◌, ◌<◌, ◌≤◌, Bool, true, false, ◌&&◌, List, [], ◌∷◌, ◌++◌, length, get_or, take, map, reverse, ◌⊎◌, inl, inr, subst, ap, sym, refl, ◌∙◌, true≢false, arith}
+use Rattle.std.proofs.Common.{◌≡◌, ◌≢◌, ℕ, ◌+◌, ◌<◌, Bool, true, false, ◌&&◌, List, [], ◌∷◌, ◌++◌, length, get_or, take, reverse, ◌⊎◌, inl, inr, subst, ap, sym, refl, ◌∙◌, true≢false}
 use Rattle.std.specs.Prelude.{◌↔◌}
 use Rattle.std.proofs.lemmas.List.{append_assoc}
 use Rattle.order_list.specs.declared.judge.Sides.{Sides}
 use Rattle.order_list.specs.declared.judge.Moved.{Moved}
 use Rattle.order_list.specs.Sides.{AreSides}
 use Rattle.fut_base.specs.declared.event.Event.{Event}
-use Rattle.fut_base.specs.Dag.{Among, ReachesBy, edges_past}
+use Rattle.fut_base.specs.Dag.{Among}
 use Rattle.fut_base.specs.Orders.{stands_before, precedes_past}
-use Rattle.fut_base.specs.Sound.{IsSound, home_of}
+use Rattle.fut_base.specs.Sound.{home_of}
 use Rattle.fut_base.specs.Tables.{table_past}
 use Rattle.strand_laws.specs.Laws.{AreStrands, Covers}
 use Rattle.strand_laws.proofs.Places.{same_or_not}
@@ -17,7 +17,7 @@ use Rattle.strand_laws.proofs.Ones.{table_means_path, table_has_one}
 use Rattle.strand_laws.proofs.Least.{try_means_path}
 use Rattle.strand_tree.specs.declared.strand.Strand.{Strand}
 use Rattle.strand_tree.specs.Placing.{IsStrandOf}
-use Rattle.reach_table.specs.Telling.{number_of, HasTable, IsKnownOf, OrdersAgree, AllKnown, TellsReach, IsOrPrecedes, ReachesOne, HasMovedLast}
+use Rattle.reach_table.specs.Telling.{HasTable, IsKnownOf, OrdersAgree, AllKnown, TellsReach, IsOrPrecedes, ReachesOne, HasMovedLast}
 use Rattle.reach_table.specs.Tabled.{TableTells, OneOfEach}
 use Rattle.reach_table.proofs.Members.{of_number, numbered, same_strand, in_more}
 use Rattle.reach_table.proofs.Agreeing.{agree}

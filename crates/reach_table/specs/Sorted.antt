@@ -1,5 +1,5 @@
 -- How the strands of a table are sorted, and where in it a future stands.
-use Rattle.std.specs.Prelude.{◌≡◌, ℕ, ◌<◌, List, [], ◌∷◌, ◌⊎◌}
+use Rattle.std.specs.Prelude.{◌≡◌, ◌<◌, List, [], ◌∷◌, ◌⊎◌}
 use Rattle.fut_base.specs.Dag.{Among}
 use Rattle.strand_tree.specs.declared.strand.Strand.{Strand}
 

@@ -9,7 +9,7 @@ mod group;
 pub mod laws;
 mod merging;
 mod reach;
-
-
+#[cfg(test)]
+mod tests;
 
 pub use reach::Reach;

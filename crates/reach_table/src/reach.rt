@@ -107,12 +107,7 @@ impl Reach {
     /// Whether u is v or a path leads from u to v, whose table this is, by a judge that knows u, v and the strands of the
     /// table. It asks the judge once where the futures agree, and else at most once for each strand of the table that is
     /// of u's future; it takes no memory.
-    pub fn try_reaches<J: Judge>(
-        &self,
-        judge: &mut J,
-        u: Strand,
-        v: Strand,
-    ) -> Result<bool, Moved>
+    pub fn try_reaches<J: Judge>(&self, judge: &mut J, u: Strand, v: Strand) -> Result<bool, Moved>
         requires u_known { u.number < J.known judge.old }
         requires v_known { v.number < J.known judge.old }
         requires table_known { AllKnown (J.known judge.old) self.now }

@@ -1,9 +1,8 @@
-use Rattle.std.proofs.Common.{◌≡◌, ℕ, ◌+◌, ◌<◌, Bool, true, false, true≢false, List, length, take, subst, sym, ap, ◌∙◌, refl, inl, inr, arith, get_or}
+use Rattle.std.proofs.Common.{ℕ, ◌<◌, List, subst, sym, ◌∙◌, refl, arith, get_or}
 use Rattle.std.proofs.lemmas.Result.{err_from_is_err_and}
-use Rattle.fut_base.specs.Dag.{Among}
 use Rattle.strand_tree.specs.declared.strand.Strand.{Strand}
 use Rattle.reach_table.specs.Telling.{IsOrPrecedes}
-use Rattle.reach_table.proofs.Members.{at_place, in_more, from_take}
+use Rattle.reach_table.proofs.Members.{at_place}
 use Rattle.reach_table.proofs.Reaching.{moved_after, loads_after, one_more}
 use Rattle.reach_table.proofs.group.reaches_one.Goals as goal
 

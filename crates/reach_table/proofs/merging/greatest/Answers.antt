@@ -1,7 +1,7 @@
-use Rattle.std.proofs.Common.{◌≡◌, ℕ, ◌+◌, ◌<◌, List, length, take, true≢false, subst, sym, ap, ◌∙◌, arith, get_or}
+use Rattle.std.proofs.Common.{true≢false, sym, ap, ◌∙◌, arith}
 use Rattle.strand_tree.specs.declared.strand.Strand.{Strand}
 use Rattle.reach_table.proofs.Members.{at_place}
-use Rattle.reach_table.proofs.Leaving.{Leaves, leaves_none, leaves_more, leaves_out, leaves_all}
+use Rattle.reach_table.proofs.Leaving.{leaves_none, leaves_more, leaves_out, leaves_all}
 use Rattle.reach_table.proofs.merging.greatest.Goals as goal
 use Rattle.reach_table.proofs.merging.greatest.Goals.{then-is_greatest+in_ok-push, else-is_greatest}
 

@@ -1,6 +1,5 @@
-use Rattle.std.proofs.Common.{◌≡◌, ◌≢◌, ℕ, ◌+◌, ◌<◌, Bool, true, false, true≢false, List, length, take, subst, sym, ap, ◌∙◌, refl, inl, inr, arith, get_or}
+use Rattle.std.proofs.Common.{true≢false, sym, ◌∙◌, refl, arith, get_or}
 use Rattle.strand_tree.specs.declared.strand.Strand.{Strand}
-use Rattle.reach_table.specs.Merging.{PrecedesOne, precedes_in}
 use Rattle.reach_table.proofs.Members.{at_place}
 use Rattle.reach_table.proofs.Leaving.{none_more}
 use Rattle.reach_table.proofs.merging.precedes_one.Goals as goal

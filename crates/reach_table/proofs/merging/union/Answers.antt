@@ -1,11 +1,11 @@
-use Rattle.std.proofs.Common.{◌≡◌, ℕ, ◌+◌, ◌-◌, ◌<◌, ◌≤◌, ◌++◌, true≢false, List, length, take, drop, inl, inr, ap, ◌∙◌, subst, sym, arith, get_or}
+use Rattle.std.proofs.Common.{◌≡◌, ℕ, ◌+◌, ◌++◌, true≢false, List, drop, inl, inr, ap, ◌∙◌, subst, sym, arith, get_or}
 use Rattle.std.specs.Prelude.{◌↔◌, ◌⊎◌}
 use Rattle.std.proofs.lemmas.List.{drop_all, take_rest}
 use Rattle.fut_base.specs.Dag.{Among}
 use Rattle.strand_tree.specs.declared.strand.Strand.{Strand}
 use Rattle.reach_table.specs.Sorted.{IsRising}
 use Rattle.reach_table.proofs.Members.{equal_strands, unequal_strands}
-use Rattle.reach_table.proofs.Uniting.{Unites, IsOut, begins, step_other, step_one, step_both, ends_rising, ends_members}
+use Rattle.reach_table.proofs.Uniting.{Unites, IsOut, step_other, step_one, step_both, ends_rising, ends_members}
 use Rattle.reach_table.proofs.merging.union.Goals as goal
 use Rattle.reach_table.proofs.merging.union.Goals.{then-eq, else-eq, then-loop-i-test+else-j-other, else-loop-i-test, In_ok-extend_from_slice-2}
 
