@@ -2,7 +2,7 @@
 use Rattle.std.proofs.Common.{◌≡◌, ℕ, ◌+◌, ◌<◌, ◌≤◌, zero, suc, Bool, true, false, List, [], ◌∷◌, ◌++◌, ◌⊎◌, inl, inr, subst, ap, sym, refl, ◌∙◌, true≢false, arith}
 use Rattle.std.proofs.lemmas.Bool.{cases_lt, cases_eq}
 use Rattle.fut_base.specs.Dag.{Among, IsPath, ReachesBy, AreJoinedBy}
-use Rattle.access_shards.specs.Touches.{Touch, Kinds, WritesConflict, IsRising, IsLate, AreRacing, HasNoRace, IsFirstPair, HasNoWrite, IsLastWrite, IsLatest, MustBeKept}
+use Rattle.access_shards.specs.Touches.{Touch, Kinds, WritesConflict, IsRising, IsLate, HasNoRace, HasNoWrite, IsLastWrite, MustBeKept}
 
 path_on : (es : List (ℕ × ℕ)) (one two : List (ℕ × ℕ)) (u v w : ℕ) → IsPath es one u v → IsPath es two v w → IsPath es (one ++ two) u w
 path_on es [] two u v w h k = subst (λ x. IsPath es two x w) (sym h) k
@@ -28,17 +28,23 @@ module _ (K : Type 0) (kinds : Kinds K) where
     where
       go : (b : Bool) → kinds.writes x.kind ≡ b → ((w : Touch K) × IsLastWrite K kinds past w) ⊎ HasNoWrite K kinds past → ((w : Touch K) × IsLastWrite K kinds (x ∷ past) w) ⊎ HasNoWrite K kinds (x ∷ past)
       go true is rest =
-          inl (x, record {
-            there = inl refl;
-            write = is;
-            last = λ t h _. elim h [ inl e ↦ (let q = ap (λ (i : Touch K). i.place) e in omega (arith, q)) | inr k ↦ (let lt = rising.0 t k in omega (arith, lt)) ];
-          })
+          inl (
+            x,
+            record {
+              there = inl refl;
+              write = is;
+              last = λ t h _. elim h [ inl e ↦ (let q = ap (λ (i : Touch K). i.place) e in omega (arith, q)) | inr k ↦ (let lt = rising.0 t k in omega (arith, lt)) ];
+            },
+          )
       go false is (inl found) =
-          inl (found.0, record {
-            there = inr found.1.there;
-            write = found.1.write;
-            last = λ t h w. elim h [ inl e ↦ absurd (true≢false (sym w ∙ ap (λ (i : Touch K). kinds.writes i.kind) (sym e) ∙ is)) | inr k ↦ found.1.last t k w ];
-          })
+          inl (
+            found.0,
+            record {
+              there = inr found.1.there;
+              write = found.1.write;
+              last = λ t h w. elim h [ inl e ↦ absurd (true≢false (sym w ∙ ap (λ (i : Touch K). kinds.writes i.kind) (sym e) ∙ is)) | inr k ↦ found.1.last t k w ];
+            },
+          )
       go false is (inr none) = inr (λ t h. elim h [ inl e ↦ ap (λ (i : Touch K). kinds.writes i.kind) (sym e) ∙ is | inr k ↦ none t k ])
 
 -- a further access x after those of a cell
@@ -63,9 +69,9 @@ module _ (K : Type 0) (kinds : Kinds K) (es : List (ℕ × ℕ)) (past : List (T
           kind_is = refl;
           after = after;
           latest = λ u hu ku lt joined.
-            latest_enough n u (omega (arith, le, lt)) hu (λ w hw write. let k = after w hw write in omega (arith, k, lt))
-            (ap (λ k. kinds.conflict k x.kind) ku ∙ meets.0, λ r. meets.1 (reach_on es g.strand u.strand x.strand (reached g u (inr there) (inr hu) lt joined) r))
-            (λ c kept above. none c kept (omega (arith, lt, above)));
+              latest_enough n u (omega (arith, le, lt)) hu (λ w hw write. let k = after w hw write in omega (arith, k, lt))
+              (ap (λ k. kinds.conflict k x.kind) ku ∙ meets.0, λ r. meets.1 (reach_on es g.strand u.strand x.strand (reached g u (inr there) (inr hu) lt joined) r))
+              (λ c kept above. none c kept (omega (arith, lt, above)));
         }))
         (omega arith) meets
 
@@ -79,14 +85,14 @@ module _ (K : Type 0) (kinds : Kinds K) (es : List (ℕ × ℕ)) (past : List (T
         at_write : (w : Touch K) → IsLastWrite K kinds past w → ⊥
         at_write w last = elim (cases_lt g.place w.place) [
           | inl lt ↦ calm g w (record {
-              one = there;
-              other = last.there;
-              order = lt;
-              conflict = strong.after w.kind g.kind last.write;
-              apart = λ joined.
+            one = there;
+            other = last.there;
+            order = lt;
+            conflict = strong.after w.kind g.kind last.write;
+            apart = λ joined.
                 none w (inl last) (omega (arith, lt))
                 (strong.before w.kind x.kind last.write, λ r. meets.1 (reach_on es g.strand w.strand x.strand (reached g w (inr there) (inr last.there) lt joined) r));
-            })
+          })
           | inr ge ↦ elim (cases_eq g.place w.place) [
             | inl same ↦ (let e = one_at past rising.1 w g last.there there (sym same) in none g (inl (subst (λ t. IsLastWrite K kinds past t) e last)) (omega arith) meets)
             | inr other ↦ latest_enough x.place g (omega arith) there (λ v hv write. let k = last.last v hv write in omega (arith, k, ge, other)) meets none

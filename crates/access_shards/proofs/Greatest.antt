@@ -1,8 +1,8 @@
 -- The greatest partner of a further access is one that must be kept.
-use Rattle.std.proofs.Common.{◌≡◌, ℕ, ◌<◌, ◌≤◌, true, false, List, ◌∷◌, ◌⊎◌, inl, inr, subst, ap, sym, refl, ◌∙◌, true≢false, arith}
+use Rattle.std.proofs.Common.{◌≡◌, ℕ, ◌<◌, true, List, ◌∷◌, inl, inr, subst, ap, sym, refl, ◌∙◌, true≢false, arith}
 use Rattle.std.proofs.lemmas.Bool.{cases_lt, cases_eq}
-use Rattle.fut_base.specs.Dag.{Among, ReachesBy, AreJoinedBy}
-use Rattle.access_shards.specs.Touches.{Touch, Kinds, WritesConflict, IsRising, IsLate, HasNoRace, HasNoWrite, IsLastWrite, IsLatest, MustBeKept, IsPartner, IsGreatestPartner}
+use Rattle.fut_base.specs.Dag.{Among, AreJoinedBy}
+use Rattle.access_shards.specs.Touches.{Touch, Kinds, WritesConflict, IsRising, IsLate, HasNoRace, IsLastWrite, MustBeKept, IsGreatestPartner}
 use Rattle.access_shards.specs.Laws.{KeptIsEnough}
 use Rattle.access_shards.proofs.Enough.{reach_on, one_at, last_write, reached, enough}
 
@@ -22,27 +22,27 @@ module _ (K : Type 0) (kinds : Kinds K) (es : List (ℕ × ℕ)) (past : List (T
           kind_is = refl;
           after = after;
           latest = λ u hu ku lt joined. (
-            let le = most.greatest u hu (record {
-              conflict = ap (λ k. kinds.conflict k x.kind) ku ∙ most.partner.conflict;
-              apart = apart_on g u most.there hu lt joined most.partner.apart;
-            }) in
-            omega (arith, le, lt));
+              let le = most.greatest u hu (record {
+                conflict = ap (λ k. kinds.conflict k x.kind) ku ∙ most.partner.conflict;
+                apart = apart_on g u most.there hu lt joined most.partner.apart;
+              }) in
+              omega (arith, le, lt));
         })
 
     at_write : (w : Touch K) → IsLastWrite K kinds past w → MustBeKept K kinds es past g
     at_write w last = elim (cases_lt g.place w.place) [
       | inl lt ↦ absurd (calm g w (record {
-          one = most.there;
-          other = last.there;
-          order = lt;
-          conflict = strong.after w.kind g.kind last.write;
-          apart = λ joined. (
+        one = most.there;
+        other = last.there;
+        order = lt;
+        conflict = strong.after w.kind g.kind last.write;
+        apart = λ joined. (
             let le = most.greatest w last.there (record {
               conflict = strong.before w.kind x.kind last.write;
               apart = apart_on g w most.there last.there lt joined most.partner.apart;
             }) in
             omega (arith, le, lt));
-        }))
+      }))
       | inr ge ↦ elim (cases_eq g.place w.place) [
         | inl same ↦ inl (subst (λ t. IsLastWrite K kinds past t) (one_at past rising.1 w g last.there most.there (sym same)) last)
         | inr other ↦ after_writes (λ v hv write. let k = last.last v hv write in omega (arith, k, ge, other))
@@ -71,11 +71,11 @@ module _ (K : Type 0) (kinds : Kinds K) (es : List (ℕ × ℕ)) (past : List (T
           | inr le ↦ le
           | inl lt ↦ absurd (enough K kinds es past x strong rising late calm b hb (p.conflict, λ r. p.apart (inl r))
               (λ c kept above m. (
-                let le = most.greatest c kept (record {
-                  conflict = m.0;
-                  apart = λ j. m.1 (reached K kinds es past x strong rising late c x (inr (there_of c kept)) (inl refl) (rising.0 c (there_of c kept)) j);
-                }) in
-                omega (arith, le, above, lt))))
+              let le = most.greatest c kept (record {
+                conflict = m.0;
+                apart = λ j. m.1 (reached K kinds es past x strong rising late c x (inr (there_of c kept)) (inl refl) (rising.0 c (there_of c kept)) j);
+              }) in
+              omega (arith, le, above, lt))))
         ];
       }
 

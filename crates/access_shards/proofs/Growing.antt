@@ -1,5 +1,5 @@
 -- With further structural events the same is kept of a cell, and the accesses stay late.
-use Rattle.std.proofs.Common.{◌≡◌, ℕ, ◌<◌, ◌≤◌, List, [], ◌∷◌, ◌++◌, ◌⊎◌, inl, inr, subst, ap, sym, refl, ◌∙◌, reverse, arith}
+use Rattle.std.proofs.Common.{◌≡◌, ℕ, ◌<◌, ◌≤◌, List, [], ◌∷◌, ◌++◌, inl, inr, subst, ap, sym, refl, ◌∙◌, reverse, arith}
 use Rattle.std.specs.Prelude.{Option, Some, None}
 use Rattle.std.proofs.lemmas.List.{reverse-append}
 use Rattle.fut_base.specs.declared.event.Event.{Event}
@@ -11,8 +11,8 @@ use Rattle.strand_tree.specs.declared.strand.Strand.{Strand}
 use Rattle.strand_tree.specs.Placing.{IsStrandOf}
 use Rattle.access_shards.specs.declared.kept.Access.{Access}
 use Rattle.access_shards.specs.declared.kept.Kept.TheVariants.{Clean, Found}
-use Rattle.access_shards.specs.Touches.{Touch, IsRising, IsLate, AreRacing, HasNoRace, IsFirstPair, IsLastWrite, IsLatest}
-use Rattle.access_shards.specs.Kept.{Kind, reading, kinds, Shows, IsWriter, AreReaders, IsKept, MayCome, touch}
+use Rattle.access_shards.specs.Touches.{Touch, IsLate, AreRacing, IsFirstPair, IsLatest}
+use Rattle.access_shards.specs.Kept.{Kind, reading, kinds, Shows, IsWriter, AreReaders, touch}
 use Rattle.access_shards.specs.Laws.{AreOn, KeptStays, LateStays, CurrentMayCome}
 
 -- further events make no strand less and change no strand's future

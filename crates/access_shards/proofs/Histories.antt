@@ -1,5 +1,5 @@
 -- The accesses of a cell in a history: their places, their races, and that no path leads back.
-use Rattle.std.proofs.Common.{◌≡◌, ◌≢◌, ℕ, ◌+◌, ◌<◌, ◌≤◌, Bool, true, false, cond, List, [], ◌∷◌, ◌++◌, length, reverse, filter, get_or, ◌⊎◌, inl, inr, subst, ap, sym, refl, ◌∙◌, arith, true≢false, append_assoc, option_to_list, option_map, slice_get, ◌==◌, ◌||◌, ◌&&◌, if◌then◌else◌, length-append}
+use Rattle.std.proofs.Common.{◌≡◌, ℕ, ◌<◌, ◌≤◌, Bool, true, false, cond, List, [], ◌∷◌, ◌++◌, length, reverse, filter, ◌⊎◌, inl, inr, subst, ap, sym, refl, ◌∙◌, arith, append_assoc, option_to_list, option_map, slice_get, ◌==◌, ◌&&◌, if◌then◌else◌, length-append}
 use Rattle.std.specs.Prelude.{Option, Some, None}
 use Rattle.std.proofs.lemmas.Bool.{cases_lt, cases_eq}
 use Rattle.std.proofs.lemmas.List.{reverse-append, reverse-reverse, length-reverse, get_or_push}
@@ -10,17 +10,16 @@ use Rattle.fut_base.specs.declared.event.Event.{Event}
 use Rattle.fut_base.specs.declared.event.Action.{Action}
 use Rattle.fut_base.specs.declared.event.Action.TheVariants.{Reads, Writes, Spawns, Creates, Syncs, Gets, Ends}
 use Rattle.fut_base.specs.Events.{structural, structure_of}
-use Rattle.fut_base.specs.Dag.{Among, ReachesBy, Reaches, edges_of, edges_past, last_of, ends}
-use Rattle.fut_base.specs.Sound.{IsSound, IsSoundPast, current, current_by, next_strand, strands_by}
+use Rattle.fut_base.specs.Dag.{Among, ReachesBy, Reaches, edges_past, last_of}
+use Rattle.fut_base.specs.Sound.{IsSoundPast, current, current_by, next_strand}
 use Rattle.fut_base.proofs.Rising.{current_below, IsBelow}
-use Rattle.strand_laws.proofs.Places.{by_eq}
 use Rattle.strand_laws.proofs.Links.{ev}
 use Rattle.strand_laws.proofs.Structure.{reverse_filter, structure_has_edges}
 use Rattle.strand_laws.proofs.Still.{paths_are_kept, current_ends_paths}
-use Rattle.access_shards.specs.Touches.{Touch, IsRising, IsLate}
-use Rattle.access_shards.specs.Kept.{Kind, reading, writing, touch}
-use Rattle.access_shards.specs.Histories.{kind_of, touches_past, touches_of, IsStanding, AreStanding, IsInStep}
-use Rattle.access_shards.specs.Laws.{AreOn, NoPathBack, AccessesAreLate}
+use Rattle.access_shards.specs.Touches.{Touch, IsRising}
+use Rattle.access_shards.specs.Kept.{Kind, touch}
+use Rattle.access_shards.specs.Histories.{kind_of, touches_past, IsStanding, AreStanding, IsInStep}
+use Rattle.access_shards.specs.Laws.{NoPathBack, AccessesAreLate}
 
 -- an event stands at a place of a history
 abbrev pub Stood : List Event → ℕ → Event → Type 0
@@ -233,8 +232,8 @@ pub accesses_are_late : AccessesAreLate
 accesses_are_late h c steps = (
   touches_rise c (reverse h),
   λ a b ha hb lt r. (
-    let x = touch_stood c (reverse h) a ha in
-    let y = touch_stood c (reverse h) b hb in
-    sym x.2 ∙ back h steps a.place b.place x.0 y.0 x.1 y.1 lt (subst (λ n. Reaches h n x.0.strand) (sym y.2) (subst (λ n. Reaches h b.strand n) (sym x.2) r)) ∙ y.2),
+      let x = touch_stood c (reverse h) a ha in
+      let y = touch_stood c (reverse h) b hb in
+      sym x.2 ∙ back h steps a.place b.place x.0 y.0 x.1 y.1 lt (subst (λ n. Reaches h n x.0.strand) (sym y.2) (subst (λ n. Reaches h b.strand n) (sym x.2) r)) ∙ y.2),
   λ t ht. (let x = touch_stood c (reverse h) t ht in let lt = strand_there h steps t.place x.0 x.1 in omega (arith, lt, x.2)),
 )

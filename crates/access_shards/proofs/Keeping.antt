@@ -1,17 +1,17 @@
 -- What is kept of the reads and writes of a cell with one more.
-use Rattle.std.proofs.Common.{◌≡◌, ℕ, ◌<◌, ◌≤◌, Bool, true, false, ◌||◌, List, [], ◌∷◌, ◌++◌, ◌⊎◌, inl, inr, subst, ap, sym, refl, ◌∙◌, true≢false, arith, option_to_list}
+use Rattle.std.proofs.Common.{◌≡◌, ℕ, ◌<◌, Bool, true, false, ◌||◌, List, [], ◌∷◌, ◌++◌, inl, inr, subst, ap, sym, refl, ◌∙◌, true≢false, arith, option_to_list}
 use Rattle.std.specs.Prelude.{Option, Some, None}
 use Rattle.fut_base.specs.declared.event.Event.{Event}
-use Rattle.fut_base.specs.Dag.{Among, ReachesBy, AreJoinedBy, edges_of}
+use Rattle.fut_base.specs.Dag.{Among, ReachesBy, edges_of}
 use Rattle.strand_laws.proofs.Places.{among_or, among_left, among_right}
 use Rattle.strand_tree.specs.declared.strand.Strand.{Strand}
 use Rattle.strand_tree.specs.Placing.{IsStrandOf}
 use Rattle.access_shards.specs.declared.kept.Access.{Access}
-use Rattle.access_shards.specs.Touches.{Touch, WritesConflict, IsRising, IsLate, HasNoRace, IsFirstPair, IsLastWrite, IsLatest, MustBeKept}
+use Rattle.access_shards.specs.Touches.{Touch, WritesConflict, HasNoRace, IsFirstPair, IsLastWrite, IsLatest, MustBeKept}
 use Rattle.access_shards.specs.Kept.{Kind, reading, writing, is_write, kinds, Shows, IsWriter, IsInOrder, AreReaders, all_kept, touch, MayCome}
 use Rattle.access_shards.specs.Finding.{IsApart, IsLastApart, AreThoseApart}
 use Rattle.access_shards.proofs.Enough.{one_at, reached, Meets}
-use Rattle.access_shards.proofs.Next.{latest_before, latest_stays, latest_new, latest_none, write_new, write_stays, no_write, still_none, pair_found, pair_stays}
+use Rattle.access_shards.proofs.Next.{latest_before, latest_stays, latest_new, latest_none, write_new, write_stays, no_write, still_none, pair_found}
 
 or_right : (b : Bool) → (b || true) ≡ true
 or_right true = refl
@@ -139,9 +139,9 @@ module _ (s : List Event) (past : List (Touch Kind)) (at : Strand) (place : ℕ)
   none_by_read is f =
       still_none Kind kinds es past x may.rising strong may.late calm
       (λ c kept m. (
-        let w = write_kept c kept (conflicts c (subst (λ z. kinds.conflict c.kind z ≡ true) is m.0)) in
-        let k = last_shown writer wrote c w in
-        meets_apart k.0 c k.2 m (f k.0 (in_writer writer k.0 k.1))))
+      let w = write_kept c kept (conflicts c (subst (λ z. kinds.conflict c.kind z ≡ true) is m.0)) in
+      let k = last_shown writer wrote c w in
+      meets_apart k.0 c k.2 m (f k.0 (in_writer writer k.0 k.1))))
 
   -- nor does a write that is reached from each kept access
   pub none_by_write : IsLastApart s at (all_kept writer readers) None → HasNoRace Kind kinds es (x ∷ past)
@@ -183,8 +183,8 @@ module _ (s : List Event) (past : List (Touch Kind)) (at : Strand) (place : ℕ)
               let r = read.each a k.0 in (
                 r.0,
                 latest_stays Kind kinds es past x may.rising reading r.0 free
-                (λ j. k.1 (subst (λ n. ReachesBy es n at.number) (sym r.2.number_is) (reached Kind kinds es past x strong may.rising may.late r.0 x (inr r.1.there) (inl refl) (may.rising.0 r.0 r.1.there) j)))
-                r.1,
+                    (λ j. k.1 (subst (λ n. ReachesBy es n at.number) (sym r.2.number_is) (reached Kind kinds es past x strong may.rising may.late r.0 x (inr r.1.there) (inl refl) (may.rising.0 r.0 r.1.there) j)))
+                    r.1,
                 r.2,
               ))
           | inr (inl e) ↦ (x, subst (λ z. IsLatest Kind kinds es (x ∷ past) z x) is (latest_new Kind kinds es past x may.rising free), subst (λ z. Shows s z x) e sh)
@@ -199,8 +199,8 @@ module _ (s : List Event) (past : List (Touch Kind)) (at : Strand) (place : ℕ)
               (k.0, among_left k.0 left (new ∷ []) ((those.those k.0).1 (k.1, λ r. l.latest x (inl refl) is lt (inl (subst (λ n. ReachesBy es n at.number) k.2.number_is r)))), k.2))
         ];
         order = in_order_more left new those.order (λ a h. (
-          let k = (those.those a).0 h in
-          let r = read.each a k.0 in
-          let lt = may.rising.0 r.0 r.1.there in
-          omega (arith, lt, r.2.place_is, sh.place_is)));
+            let k = (those.those a).0 h in
+            let r = read.each a k.0 in
+            let lt = may.rising.0 r.0 r.1.there in
+            omega (arith, lt, r.2.place_is, sh.place_is)));
       }

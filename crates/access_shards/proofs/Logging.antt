@@ -9,8 +9,7 @@ use Rattle.strand_tree.specs.declared.strand.Strand.{Strand}
 use Rattle.access_shards.specs.declared.kept.Access.{Access}
 use Rattle.access_shards.specs.declared.kept.Kept.{Kept}
 use Rattle.access_shards.specs.declared.kept.Kept.TheVariants.{Clean, Found}
-use Rattle.access_shards.specs.Touches.{Touch}
-use Rattle.access_shards.specs.Kept.{Kind, reading, writing, kinds, Shows, IsInOrder, AreReaders, IsKept, IsViewOf, MayCome, AreKnown, StrandsStay, KeepsOneMore, all_kept, touch}
+use Rattle.access_shards.specs.Kept.{Kind, reading, writing, kinds, Shows, IsInOrder, AreReaders, IsKept, IsViewOf, AreKnown, StrandsStay, KeepsOneMore, all_kept, touch}
 use Rattle.access_shards.specs.Finding.{AreOf, FindsLast, FindsApart, AllOnKnown}
 use Rattle.access_shards.proofs.Next.{pair_stays}
 use Rattle.strand_laws.proofs.Places.{among_or, among_left, among_right}
@@ -97,7 +96,7 @@ module _ (table : List Strand) (at : Strand) (place : ℕ) (known : ℕ) (englis
           none_by_read s past at place reading may k.0 writer readers.items k.1 k.2 refl (finds s view first),
           writer_stays s past at place reading may k.0 writer readers.items k.1 k.2 refl,
           subst (AreReaders s (touch place at.number reading ∷ past)) (sym (items ∙ more))
-          (kept_by_read s past at place reading may k.0 writer readers.items k.1 k.2 refl _ (shows_new s reading _ view refl) left (apart s view rest)),
+              (kept_by_read s past at place reading may k.0 writer readers.items k.1 k.2 refl _ (shows_new s reading _ view refl) left (apart s view rest)),
         )
 
 -- whoever knows the strands of what was kept, and the new one, knows those that are kept after a read

@@ -1,5 +1,5 @@
 -- What is found where one more kept access is looked at.
-use Rattle.std.proofs.Common.{◌≡◌, ℕ, ◌<◌, ◌≤◌, List, [], ◌∷◌, ◌++◌, inl, inr, subst, ap, sym, refl, arith, ◌⊎◌, ◌∙◌, append_assoc, Bool, ◌+◌, take, drop, length, get_or}
+use Rattle.std.proofs.Common.{◌≡◌, ℕ, ◌<◌, List, [], ◌∷◌, ◌++◌, inl, inr, subst, ap, sym, refl, arith, ◌∙◌, append_assoc, Bool, ◌+◌, take, drop, length, get_or}
 use Rattle.std.proofs.lemmas.List.{take_more, take-append-drop}
 use Rattle.order_list.specs.declared.judge.Moved.{Moved}
 use Rattle.reach_table.specs.Telling.{HasMovedLast}
@@ -8,7 +8,6 @@ use Rattle.fut_base.specs.declared.event.Event.{Event}
 use Rattle.fut_base.specs.Dag.{Among, ReachesBy, edges_of}
 use Rattle.strand_tree.specs.declared.strand.Strand.{Strand}
 use Rattle.access_shards.specs.declared.kept.Access.{Access}
-use Rattle.access_shards.specs.Kept.{IsInOrder, IsViewOf}
 use Rattle.access_shards.specs.Finding.{IsApart, IsLastApart, AreOf, FindsLast, AreThoseApart, FindsApart, LooksOn, KeepsApart}
 use Rattle.strand_laws.proofs.Places.{among_or, among_left, among_right}
 use Rattle.access_shards.proofs.Keeping.{in_order_more, in_order_last}
@@ -25,18 +24,17 @@ module _ (table : List Strand) (at : Strand) (known : ℕ) (english hebrew : Lis
       let order = in_order_last xs a of.order in
       elim (looks s view strand) [
         | inl r ↦ subst (λ o. IsLastApart s at (xs ++ a ∷ []) o) (sym r.1) (stays s r.0 found before)
-        | inr r ↦ subst (λ o. IsLastApart s at (xs ++ a ∷ []) o) (sym r.1)
-            (
-              a,
-              among_right a xs (a ∷ []) (inl refl),
-              refl,
-              r.0,
-              λ b h _. elim (among_or b xs (a ∷ []) h) [
-                | inl l ↦ (let k = order.1 b l in omega (arith, k))
-                | inr (inl e) ↦ (let k = ap (λ (z : Access). z.place) e in omega (arith, k))
-                | inr (inr n) ↦ absurd n
-              ],
-            )
+        | inr r ↦ subst (λ o. IsLastApart s at (xs ++ a ∷ []) o) (sym r.1) (
+          a,
+          among_right a xs (a ∷ []) (inl refl),
+          refl,
+          r.0,
+          λ b h _. elim (among_or b xs (a ∷ []) h) [
+            | inl l ↦ (let k = order.1 b l in omega (arith, k))
+            | inr (inl e) ↦ (let k = ap (λ (z : Access). z.place) e in omega (arith, k))
+            | inr (inr n) ↦ absurd n
+          ],
+        )
       ]
     where
       stays : (s : List Event) → ReachesBy (edges_of s) a.strand.number at.number → (o : Option ℕ) → IsLastApart s at xs o → IsLastApart s at (xs ++ a ∷ []) o
@@ -125,7 +123,7 @@ moved_on moved may may' a b c e f m =
       loads = (
         f.0 ++ m.loads.0,
         m.loads.1 ∙ ap (λ l. l ++ (m.loads.0 ++ moved.first ∷ moved.second ∷ [])) f.1 ∙ append_assoc a f.0 (m.loads.0 ++ moved.first ∷ moved.second ∷ [])
-        ∙ ap (λ l. a ++ l) (sym (append_assoc f.0 m.loads.0 (moved.first ∷ moved.second ∷ []))),
+            ∙ ap (λ l. a ++ l) (sym (append_assoc f.0 m.loads.0 (moved.first ∷ moved.second ∷ []))),
       );
       differ = m.differ;
     }

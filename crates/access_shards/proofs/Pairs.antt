@@ -1,10 +1,10 @@
 -- The races and the first pair of a cell's accesses are those of the history.
-use Rattle.std.proofs.Common.{◌≡◌, ◌≢◌, ℕ, ◌<◌, ◌≤◌, Bool, true, false, List, [], ◌∷◌, reverse, ◌⊎◌, inl, inr, subst, ap, sym, refl, ◌∙◌, true≢false, slice_get, ◌==◌, ◌||◌, if◌then◌else◌}
-use Rattle.std.specs.Prelude.{Option, Some, None, ◌↔◌}
+use Rattle.std.proofs.Common.{◌≡◌, ℕ, ◌≤◌, Bool, true, false, List, reverse, ◌⊎◌, inl, inr, subst, ap, sym, refl, ◌∙◌, true≢false, ◌==◌, ◌||◌, if◌then◌else◌}
+use Rattle.std.specs.Prelude.{Option, Some, None}
 use Rattle.fut_base.specs.declared.event.Event.{Event}
 use Rattle.fut_base.specs.declared.event.Action.{Action}
 use Rattle.fut_base.specs.declared.event.Action.TheVariants.{Reads, Writes, Spawns, Creates, Syncs, Gets, Ends}
-use Rattle.fut_base.specs.Dag.{Among, edges_of, AreJoined, AreJoinedBy}
+use Rattle.fut_base.specs.Dag.{edges_of, AreJoinedBy}
 use Rattle.fut_base.specs.Racing.{IsAccess, IsWrite, PlacesRace}
 use Rattle.fut_base.specs.Racing as racing
 use Rattle.strand_laws.proofs.Places.{by_eq}
@@ -14,7 +14,7 @@ use Rattle.access_shards.specs.Touches.{Touch, AreRacing, IsFirstPair}
 use Rattle.access_shards.specs.Kept.{Kind, reading, writing, is_write, kinds, touch}
 use Rattle.access_shards.specs.Histories.{kind_of, touches_of}
 use Rattle.access_shards.specs.Laws.{RacesAreOfAccesses, FirstPairIsOfAccesses, KeptTellsRaces}
-use Rattle.access_shards.proofs.Histories.{Stood, touch_stood, stood_touch, stood_of, get_of}
+use Rattle.access_shards.proofs.Histories.{touch_stood, stood_touch, stood_of, get_of}
 
 no_kind : (k : Kind) → ◌≡◌ {A = Option Kind} None (Some k) → ⊥
 no_kind k h = cc
@@ -135,6 +135,6 @@ first_pair_is_of_accesses h c i j = ((λ p. pair_to_accesses h c i j p), λ p. p
 
 pub kept_tells_races : KeptTellsRaces
 kept_tells_races h c (Clean writer readers) k = λ i j r. (
-  let f = to_accesses h c i j r in
-  k.0 f.0 f.1 (subst (λ es. AreRacing Kind kinds es (touches_of c h) f.0 f.1) (sym (structure_has_edges h)) f.2))
+    let f = to_accesses h c i j r in
+    k.0 f.0 f.1 (subst (λ es. AreRacing Kind kinds es (touches_of c h) f.0 f.1) (sym (structure_has_edges h)) f.2))
 kept_tells_races h c (Found first second) k = pair_to_history h c first second (subst (λ es. IsFirstPair Kind kinds es (touches_of c h) first second) (structure_has_edges h) k)

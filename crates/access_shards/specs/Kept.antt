@@ -1,5 +1,5 @@
 -- What is kept of the reads and writes of one cell. Lists of accesses called `past` have the newest one first.
-use Rattle.std.specs.Prelude.{◌≡◌, ℕ, ◌<◌, Bool, true, false, ◌||◌, List, [], ◌∷◌, ◌++◌, reverse, option_to_list, Option, Some, None}
+use Rattle.std.specs.Prelude.{◌≡◌, ℕ, ◌<◌, Bool, true, false, ◌||◌, List, [], ◌∷◌, ◌++◌, option_to_list, Option, Some, None}
 use Rattle.fut_base.specs.declared.event.Event.{Event}
 use Rattle.fut_base.specs.Dag.{Among, edges_of}
 use Rattle.fut_base.specs.Sound.{IsSound}

@@ -21,5 +21,8 @@ pub enum Kept {
         readers: Accesses,
     },
     /// Two accesses race: `second` is the least place with an earlier partner, and `first` its greatest partner.
-    Found { first: u32, second: u32 },
+    Found {
+        first: u32,
+        second: u32,
+    },
 }

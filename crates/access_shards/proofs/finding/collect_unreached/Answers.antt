@@ -1,4 +1,4 @@
-use Rattle.std.proofs.Common.{◌≡◌, ◌<◌, ◌∙◌, ◌+◌, ◌++◌, [], ◌∷◌, List, take, get_or, length, arith, ap, subst, sym, inl, inr}
+use Rattle.std.proofs.Common.{◌∙◌, take, get_or, arith, subst, sym, inl, inr}
 use Rattle.fut_base.specs.Dag.{Among}
 use Rattle.std.proofs.lemmas.Result.{err_from_is_err_and}
 use Rattle.std.proofs.lemmas.List.{take_more}
@@ -22,8 +22,8 @@ loop-reader-preserved g c =
     let e = c.keep_unreached.ensures in
     let a = get_or c.args.readers.now c.loop-reader.reader-index (record { place = 0; strand = record { number = 0; future = 0 } }) in (
       subst (λ l. FindsApart c.args.reach.now c.args.at (g.J.Judge.known c.args.judge.now) (g.J.Judge.english c.args.judge.now) (g.J.Judge.hebrew c.args.judge.now) l c.keep_unreached.new.left.items) (sym (take_more c.args.readers.now c.loop-reader.reader-index _ c.loop-reader-test.true))
-      (keep_step c.args.reach.now c.args.at _ _ _ (take c.loop-reader.reader-index c.args.readers.now) a c.loop-reader.left.items c.keep_unreached.new.left.items i.0
-      (keeps_at c.args.reach.now c.args.at _ _ _ _ _ _ a c.loop-reader.left.items c.keep_unreached.new.left.items i.4 i.5 i.6 c.in_ok-keep_unreached.ensures.keeps)),
+          (keep_step c.args.reach.now c.args.at _ _ _ (take c.loop-reader.reader-index c.args.readers.now) a c.loop-reader.left.items c.keep_unreached.new.left.items i.0
+          (keeps_at c.args.reach.now c.args.at _ _ _ _ _ _ a c.loop-reader.left.items c.keep_unreached.new.left.items i.4 i.5 i.6 c.in_ok-keep_unreached.ensures.keeps)),
       omega (arith, e.len, i.1),
       e.capacity ∙ i.2,
       loads_on _ _ _ i.3 e.loads,

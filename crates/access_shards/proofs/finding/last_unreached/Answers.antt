@@ -1,4 +1,4 @@
-use Rattle.std.proofs.Common.{◌≡◌, ◌<◌, ◌∙◌, ◌+◌, ◌++◌, [], ◌∷◌, List, take, get_or, length, arith, ap, subst, sym, option_to_list, append_assoc}
+use Rattle.std.proofs.Common.{◌∙◌, ◌++◌, [], ◌∷◌, take, get_or, arith, ap, subst, sym, option_to_list, append_assoc}
 use Rattle.std.proofs.lemmas.Result.{err_from_is_err_and}
 use Rattle.std.proofs.lemmas.List.{take_more}
 use Rattle.access_shards.specs.Kept.{all_kept}
@@ -27,8 +27,8 @@ loop-reader-preserved g c =
     let a = get_or c.args.readers.now c.loop-reader.reader-index (record { place = 0; strand = record { number = 0; future = 0 } }) in
     let longer = ap (λ l. option_to_list c.args.writer ++ l) (take_more c.args.readers.now c.loop-reader.reader-index _ c.loop-reader-test.true) ∙ sym (append_assoc (option_to_list c.args.writer) (take c.loop-reader.reader-index c.args.readers.now) (a ∷ [])) in (
       subst (λ l. FindsLast c.args.reach.now c.args.at (g.J.Judge.known c.args.judge.now) (g.J.Judge.english c.args.judge.now) (g.J.Judge.hebrew c.args.judge.now) l c.in_ok-found-2.found) (sym longer)
-      (look_step c.args.reach.now c.args.at _ _ _ (all_kept c.args.writer (take c.loop-reader.reader-index c.args.readers.now)) a c.loop-reader.found c.in_ok-found-2.found i.0
-      (looks_at c.args.reach.now c.args.at _ _ _ _ _ _ a c.loop-reader.found c.in_ok-found-2.found i.2 i.3 i.4 c.in_ok-found-2.ensures.looks)),
+          (look_step c.args.reach.now c.args.at _ _ _ (all_kept c.args.writer (take c.loop-reader.reader-index c.args.readers.now)) a c.loop-reader.found c.in_ok-found-2.found i.0
+          (looks_at c.args.reach.now c.args.at _ _ _ _ _ _ a c.loop-reader.found c.in_ok-found-2.found i.2 i.3 i.4 c.in_ok-found-2.ensures.looks)),
       loads_on _ _ _ i.1 e.loads,
       e.known ∙ i.2,
       e.english ∙ i.3,

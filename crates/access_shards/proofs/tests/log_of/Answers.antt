@@ -1,4 +1,4 @@
-use Rattle.std.proofs.Common.{◌≡◌, ◌<◌, length, ap, sym, subst, arith}
+use Rattle.std.proofs.Common.{◌<◌, length, ap, sym, subst, arith}
 use Rattle.access_shards.specs.Kept.{AreKnown}
 use Rattle.access_shards.proofs.tests.log_of.Goals as goal
 

@@ -1,7 +1,7 @@
-use Rattle.std.proofs.Common.{◌≡◌, ◌∙◌, ap, sym, subst, arith, refl, option_to_list, Some, None}
+use Rattle.std.proofs.Common.{◌∙◌, ap, sym, subst, arith, option_to_list}
 use Rattle.std.proofs.lemmas.Result.{err_from_is_err_and}
 use Rattle.fut_base.specs.Dag.{Among}
-use Rattle.access_shards.specs.Finding.{AllOnKnown, FindsLast, FindsApart}
+use Rattle.access_shards.specs.Finding.{FindsLast, FindsApart}
 use Rattle.access_shards.proofs.Looking.{moved_on, finds_apart_at}
 use Rattle.access_shards.proofs.Logging.{known_writer, known_readers, found_stays, read_finds, read_keeps, strands_stay}
 use Rattle.access_shards.proofs.log.CellLog.read.Goals as goal
@@ -25,7 +25,7 @@ take_unreached-requires-clause-kept_known g c = λ a h.
     omega (arith, k, c.unreached_writer.ensures.known)
 
 pub returns-in_err-take_unreached-clause-moved : goal.returns-in_err-take_unreached-clause-moved
-returns-in_err-take_unreached-clause-moved g c = let p = err_from_is_err_and c.from_residual-in_err-take_unreached.result c.from_residual-in_err-take_unreached.ensures.1 in 
+returns-in_err-take_unreached-clause-moved g c = let p = err_from_is_err_and c.from_residual-in_err-take_unreached.result c.from_residual-in_err-take_unreached.ensures.1 in
     rw (p.1, p.2) (moved_on _ _ _ _ _ _ c.unreached_writer.ensures.may_move c.unreached_writer.ensures.loads c.in_err-take_unreached.ensures.moved)
 
 pub returns-clause-kept : goal.returns-clause-kept

@@ -1,5 +1,5 @@
-use Rattle.std.proofs.Common.{◌≡◌, ◌∙◌, ◌∷◌, ap, sym, subst, Some, None}
-use Rattle.access_shards.specs.Kept.{IsKept, KeepsOneMore, all_kept, writing}
+use Rattle.std.proofs.Common.{◌∙◌, ap, sym, subst}
+use Rattle.access_shards.specs.Kept.{KeepsOneMore, all_kept, writing}
 use Rattle.access_shards.specs.Finding.{AllOnKnown, FindsLast}
 use Rattle.access_shards.proofs.Logging.{known_all, found_stays, write_finds, write_keeps}
 use Rattle.access_shards.proofs.log.CellLog.write.Goals as goal
