@@ -1,4 +1,5 @@
 pub mod Sorted
 pub mod Telling
 pub mod Merging
+pub mod Rows
 pub mod Tabled

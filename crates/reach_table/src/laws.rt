@@ -1,7 +1,10 @@
 //! Laws of tables.
+ghost use Rattle.reach_table.specs.Rows.{ChainTells};
 ghost use Rattle.reach_table.specs.Tabled.{MergeBegins, AfterSync, TablesStay, OrdersStay, TableTells, OneOfEach};
 
-/// The same over the numbers of a definition's table.
+/// The tables of a worked run.
+pub use fut_base::rows::table_row;
+/// The same as below, over the numbers of a definition's table.
 pub use strand_laws::laws::{table_has_one, table_means_path};
 
 /// A strand of another future reaches v exactly where it equals or precedes a strand of its own future in v's table.
@@ -32,4 +35,9 @@ pub fn merge_begins()
 /// Where all children of the block are merged, a sync's new strand has that table.
 pub fn after_sync()
     ensures { AfterSync }
+{}
+
+/// What the tables of the worked run tell.
+pub fn chain_tells()
+    ensures { ChainTells }
 {}
