@@ -11,17 +11,16 @@ use Rattle.fut_syntax.specs.declared.tree.Program as declared
 use Rattle.fut_syntax.specs.declared.token.Place.{Place}
 use Rattle.fut_syntax.specs.Views.{program_tree}
 use Rattle.fut_syntax.specs.Texts.{Parses, IsProgram}
-use Rattle.fut_syntax.specs.Small.{IsSmall}
 use Rattle.fut_check.specs.Checks.{IsChecked, IsFaultOf}
 use Rattle.fut_check.specs.Items.{IsWellTyped}
 use Rattle.task_machine.specs.Machine.{Machine, opening, Leads, IsLegal, IsWhole}
-use Rattle.task_machine.specs.Flat.{Compiled, IsCodeOf}
+use Rattle.task_code.specs.Flat.{Compiled, IsCodeOf}
 use Rattle.fut_main.specs.declared.status.Status.{Status}
 use Rattle.fut_main.specs.declared.status.Status.TheVariants as status
 use Rattle.fut_main.specs.declared.words.Command.{Command}
 use Rattle.fut_main.specs.declared.words.Command.TheVariants as command
 use Rattle.fut_main.specs.RunText.{run_text}
-use Rattle.fut_main.specs.Serial.{EndsSo}
+use Rattle.run_replay.specs.Serials.{EndsSerially}
 use Rattle.fut_main.specs.Asking.{Asked, Asks}
 use Rattle.fut_main.specs.Outcomes.{ending_of, WasRun, OutcomeOf, TextWasRun, IsOutcome}
 use Rattle.fut_main.specs.Due.{verdict_text}
@@ -29,21 +28,31 @@ use Rattle.fut_main.specs.Verdict.{IsRead, IsWellTypedText, IsIllTypedText, IsRu
 
 -- ---- a program
 
-pub ends_in : (P : tree.Program) (h : List Event) (races : List Race) (end : Finish) → EndsSo P 1000 h end → IsReport h races → EndsIn P (ending_of end races) h races
-ends_in P h [] finish.Whole ends report = (record { legal = (ends.0.0, ends.0.1); bounded = ends.1; report = report }, ends.0, refl)
-ends_in P h (r ∷ rs) finish.Whole ends report = (record { legal = (ends.0.0, ends.0.1); bounded = ends.1; report = report }, ends.0, λ none. absurd (cc))
-ends_in P h races (finish.Events b) ends report =
-    let m = ends.3.0 in
-    let leads = ends.3.1 in (
-      record { legal = (m, leads); bounded = omega (arith, ends.1); report = report },
-      record { unfinished = ends.2; bound = ap (λ n. finish.Events n) ends.0; holds = (ends.1 ∙ sym ends.0, ends.2); may_go_on = ends.3 },
+pub ends_in : (P : tree.Program) (bound : ℕ) (h : List Event) (races : List Race) (end : Finish) → EndsSerially P bound h end → IsReport h races → EndsIn P bound (ending_of end races) h races
+ends_in P bound h [] finish.Whole ends report = (record { legal = (ends.how.0, ends.how.1); bounded = ends.bounded; serial = ends.serial; report = report }, ends.how, refl)
+ends_in P bound h (r ∷ rs) finish.Whole ends report = (record { legal = (ends.how.0, ends.how.1); bounded = ends.bounded; serial = ends.serial; report = report }, ends.how, λ none. absurd (cc))
+ends_in P bound h races (finish.Events b) ends report =
+    let e = ends.how in
+    (
+      record { legal = ends.legal; bounded = ends.bounded; serial = ends.serial; report = report },
+      record { unfinished = e.unfinished; holds = e.holds; cause = e.cause },
     )
-ends_in P h races (finish.Local t) ends report = absurd ends
-ends_in P h races (finish.Futures t) ends report = absurd ends
+ends_in P bound h races (finish.Local t) ends report =
+    let e = ends.how in
+    (
+      record { legal = ends.legal; bounded = ends.bounded; serial = ends.serial; report = report },
+      record { unfinished = e.unfinished; holds = e.holds; cause = e.cause },
+    )
+ends_in P bound h races (finish.Futures t) ends report =
+    let e = ends.how in
+    (
+      record { legal = ends.legal; bounded = ends.bounded; serial = ends.serial; report = report },
+      record { unfinished = e.unfinished; holds = e.holds; cause = e.cause },
+    )
 
-pub run_ends : (o : Option tree.Program) (code : Compiled) (h : List Event) (races : List Race) (end : Finish) (s : Status) → IfSome o (λ P. IsCodeOf P code) → ((P : tree.Program) → IsCodeOf P code → EndsSo P 1000 h end) → IsReport h races → s ≡ ending_of end races → IfSome o (λ P. EndsIn P s h races)
-run_ends None code h races end s of ends report is = tt
-run_ends (Some P) code h races end s of ends report is = subst (λ x. EndsIn P x h races) (sym is) (ends_in P h races end (ends P of) report)
+pub run_ends : (o : Option tree.Program) (code : Compiled) (bound : ℕ) (h : List Event) (races : List Race) (end : Finish) (s : Status) → ((P : tree.Program) → o ≡ Some P → IsCodeOf P code) → ((P : tree.Program) → IsCodeOf P code → EndsSerially P bound h end) → IsReport h races → s ≡ ending_of end races → IfSome o (λ P. EndsIn P bound s h races)
+run_ends None code bound h races end s of ends report is = tt
+run_ends (Some P) code bound h races end s of ends report is = subst (λ x. EndsIn P bound x h races) (sym is) (ends_in P bound h races end (ends P (of P refl)) report)
 
 -- ---- a text
 
@@ -58,7 +67,8 @@ tree_is text p P parsed is = let both : Some P ≡ Some parsed.0.0 = sym is ∙ 
 was_run : (c : Command) (text : List ℕ) (p : declared.Program) (s : Status) (h : List Event) (races : List Race) → Parses text (Ok p) → WasRun c p s h races → TextWasRun c text s h races
 was_run c text p s h races parsed run = (
   run.0,
-  (parsed.0.0, typed text p parsed run.1, subst (λ o. IsSomeAnd o IsSmall) parsed.0.1 run.2, subst (λ o. IfSome o (λ Q. EndsIn Q s h races)) parsed.0.1 run.3),
+  run.1,
+  (parsed.0.0, typed text p parsed run.2, subst (λ o. IfSome o (λ Q. EndsIn Q run.0 s h races)) parsed.0.1 run.3),
 )
 
 faulty : (text : List ℕ) (p : declared.Program) (number : ℕ) (place : Place) → Parses text (Ok p) → IsFaultOf p number place → IsIllTypedText text number place
@@ -77,7 +87,6 @@ faulty text p number place parsed f = record {
 pub outcome : (c : Command) (text : List ℕ) (p : declared.Program) (s : Status) (h : List Event) (races : List Race) (printed : List ℕ) → Parses text (Ok p) → OutcomeOf c p s h races printed → IsOutcome c text s h races printed
 outcome c text p status.Accepted h races printed parsed o = (o.0, o.1, (parsed.0.0, typed text p parsed o.2, o.3 parsed.0.0 parsed.0.1))
 outcome c text p (status.IllTyped rule line column) h races printed parsed o = (o.0, faulty text p rule (record { line = line; column = column }) parsed o.1)
-outcome c text p status.Unbuilt h races printed parsed o = (o.0, o.1, (parsed.0.0, typed text p parsed o.2, λ small. o.3 (subst (λ x. IsSomeAnd x IsSmall) (sym parsed.0.1) small)))
 outcome c text p status.NoMemory h races printed parsed o = o
 outcome c text p status.Clean h races printed parsed o = was_run c text p status.Clean h races parsed o
 outcome c text p status.Raced h races printed parsed o = was_run c text p status.Raced h races parsed o
@@ -91,7 +100,7 @@ outcome c text p status.TooLong h races printed parsed o = absurd o
 -- ---- the verdict
 
 of_run : (a : Asked) (c : Command) (text : List ℕ) (s : Status) (end : Finish) (h : List Event) (races : List Race) (due : List ℕ) → Asks a c → IsRead a text → TextWasRun c text s h races → due ≡ run_text text h races end → IsOfRun a s end h due
-of_run a c text s end h races due words read o is = record { words = subst (Asks a) o.0 words; bytes = text; read = read; tree = o.1.0; program = o.1.1; small = o.1.2; races = races; ends = o.1.3; record_due = is }
+of_run a c text s end h races due words read o is = record { bound = o.0; words = subst (Asks a) o.1 words; bytes = text; read = read; tree = o.2.0; program = o.2.1; races = races; ends = o.2.2; record_due = is }
 
 pub judged : (a : Asked) (c : Command) (text : List ℕ) (s : Status) (h : List Event) (races : List Race) (printed : List ℕ) → Asks a c → IsRead a text → IsOutcome c text s h races printed → IsVerdict a s h (verdict_text s text h races printed)
 judged a c text status.Clean h races printed words read o = of_run a c text status.Clean finish.Whole h races _ words read o refl
@@ -105,10 +114,6 @@ judged a c text (status.Syntax line column) h races printed words read o =
     record { command = c; words = words; no_run = o.0; is_due = refl; bytes = text; read = read; holds = o.1 }
 judged a c text (status.IllTyped rule line column) h races printed words read o =
     record { command = c; words = words; no_run = o.0; is_due = refl; bytes = text; read = read; holds = o.1 }
-judged a c text status.Unbuilt h races printed words read o = (
-  subst (Asks a) o.0 words,
-  record { command = c; words = words; no_run = o.1; is_due = refl; bytes = text; read = read; holds = o.2 },
-)
 judged a c text status.NoMemory h races printed words read o = (o, refl, read.quiet)
 judged a c text status.ReadFault h races printed words read o = absurd o
 judged a c text status.WriteFault h races printed words read o = absurd o
