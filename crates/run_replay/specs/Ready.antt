@@ -1,7 +1,8 @@
 -- The tasks that have not ended, the first in English order first.
 use Rattle.std.specs.Prelude.{◌≡◌, ◌≢◌, ℕ, ◌<◌, ◌==◌, if◌then◌else◌, List, [], ◌∷◌, reverse, slice_get, Some}
-use Rattle.fut_base.specs.Events.{Event, Action, Spawns, Creates, Ends}
-use Rattle.fut_base.specs.Dag.{Among}
+use Rattle.fut_base.specs.declared.event.Event.{Event}
+use Rattle.fut_base.specs.declared.event.Action.{Action}
+use Rattle.fut_base.specs.declared.event.Action.TheVariants.{Spawns, Creates, Ends}
 
 -- a task in front of another one, where that is in the list
 abbrev pub put_before : ℕ → ℕ → List ℕ → List ℕ

@@ -1,5 +1,5 @@
 -- A run beside the machine of the definitions.
-use Rattle.std.specs.Prelude.{◌≡◌, ℕ, ◌+◌, ◌*◌, ◌<◌, ◌≤◌, Bool, true, false, ◌⊎◌, List, [], ◌∷◌, ◌++◌, length, reverse, slice_get, slice_set, Option, Some, None, is_some, IsSome, ℤ, vec_len, vec_capacity}
+use Rattle.std.specs.Prelude.{◌≡◌, ℕ, ◌+◌, ◌*◌, ◌<◌, ◌≤◌, Bool, true, false, not, ◌⊎◌, List, [], ◌∷◌, ◌++◌, length, reverse, slice_get, slice_set, Option, Some, None, is_some, IsSome, ℤ, vec_len, vec_capacity}
 use Rattle.fut_base.specs.declared.record.Value.{Value}
 use Rattle.fut_base.specs.declared.event.Event.{Event}
 use Rattle.fut_base.specs.declared.event.Action.{Action}
@@ -105,6 +105,33 @@ pub record ActsAs (code : Compiled) (old new : Line) (a : Action) : Type 0 where
   pub future : new.future ≡ old.future
   pub block : new.block.items ≡ block_after a old.block.items
   pub value : new.value ≡ value_by a old.value
+
+-- a line of a list keeps its task, and the others are as they were
+pub record KeepsLineAt (code : Compiled) (old new : List Line) (t : ℕ) : Type 0 where
+  pub before : Line
+  pub after : Line
+  pub present : slice_get old t ≡ Some before
+  pub is : new ≡ slice_set old t after
+  pub keeps : KeepsLine code before after
+
+abbrev pub HasRoomAt : List Line → ℕ → Type 0
+HasRoomAt lines t = (line : Line) × (slice_get lines t ≡ Some line) × HasRoom line
+
+-- a line has taken an action, and others were added behind
+pub record ActsAt (code : Compiled) (old new : List Line) (t : ℕ) (a : Action) (begun : List Line) : Type 0 where
+  pub before : Line
+  pub after : Line
+  pub present : slice_get old t ≡ Some before
+  pub is : new ≡ slice_set old t after ++ begun
+  pub acts : ActsAs code before after a
+
+-- a task that exists and has not ended
+abbrev pub RunsAt : List Line → ℕ → Type 0
+RunsAt lines t = (line : Line) × (slice_get lines t ≡ Some line) × (line.task.spot.ended ≡ false)
+
+abbrev pub is_running : Option Line → Bool
+is_running None = false
+is_running (Some line) = not (is_some line.value)
 
 -- the line of a task that begins
 pub record Begins (code : Compiled) (which : ℕ) (args : List Value) (strand future : ℕ) (line : Line) : Type 0 where
