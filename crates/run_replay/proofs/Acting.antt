@@ -84,7 +84,7 @@ strands_few (Creates _ _ _ _ _) = omega arith
 
 -- ---- a step
 
-pub can_step : (P : tree.Program) (m : Machine) (t : ℕ) (r : Running) (a : Action) → slice_get m.tasks t ≡ Some r → r.value ≡ None → (can : CanAct P m r a) → IsStep P m (record { task = t; strand = r.strand; action = a }) (after P m (record { task = t; strand = r.strand; action = a }) r can.stop)
+abbrev pub can_step : (P : tree.Program) (m : Machine) (t : ℕ) (r : Running) (a : Action) → slice_get m.tasks t ≡ Some r → r.value ≡ None → (can : CanAct P m r a) → IsStep P m (record { task = t; strand = r.strand; action = a }) (after P m (record { task = t; strand = r.strand; action = a }) r can.stop)
 can_step P m t r a present runs can =
     record { task = r; stop = can.stop; present = present; running = runs; strand = refl; stands = can.stands; answers = can.answers; permits = can.permits; gives = refl }
 

@@ -6,7 +6,7 @@ use Rattle.std.proofs.lemmas.List.{reverse-append, append_assoc}
 use Rattle.std.proofs.lemmas.Bool.{false≢true}
 use Rattle.run_replay.specs.Ready.{put_before, without, IsLastPlace, IsAbsent}
 
-has : ℕ → List ℕ → Bool
+abbrev has : ℕ → List ℕ → Bool
 has t [] = false
 has t (x ∷ xs) = (x == t) || has t xs
 

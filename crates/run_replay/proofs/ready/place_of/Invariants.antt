@@ -4,8 +4,8 @@ use Rattle.run_replay.proofs.ready.place_of.Given as goal
 
 abbrev pub invariant-loop-left : goal.invariant-loop-left
 invariant-loop-left l = record {
-  within : l.left ≤ length l.ready.now;
-  behind : (j : ℕ) (x : ℕ) → l.left ≤ j → slice_get l.ready.now j ≡ Some x → x ≢ l.task;
+  within : l.left ≤ length l.ready;
+  behind : (j : ℕ) (x : ℕ) → l.left ≤ j → slice_get l.ready j ≡ Some x → x ≢ l.task;
 }
 
 abbrev pub decreases-loop-left : goal.decreases-loop-left
