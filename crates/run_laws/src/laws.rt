@@ -1,5 +1,6 @@
 //! Laws of legal histories.
 ghost use Rattle.run_laws.specs.Laws.{BegunOnce, ChildrenStandBefore, EndedOnce, EvaluationMakesNoHandle, FirstExists, FirstIsOne, GetsFollowEnds, HandlesAreHeld, HandlesStandBefore, LaterReachesNone, LeftForGood, LeftOnce, LegalIsSound, MirrorsStructure, NoneIsStuck, StrandsAreOwn, ValueWasEnded, WellTypedHasCells, WholeLeavesEach};
+ghost use Rattle.run_laws.specs.Ready.{ReadyRun, ReadyIsFirst, NoneIsReady, FirstMayGoOn};
 ghost use Rattle.run_laws.specs.Rows.{FutureRow};
 
 /// The tasks and the next numbers of the machine are what the functions on the structure give.
@@ -90,6 +91,27 @@ pub fn well_typed_has_cells()
 /// That task is out of steps, or may go on: no history is stuck.
 pub fn none_is_stuck()
     ensures { NoneIsStuck }
+{}
+
+/// A list of tasks, in which a child is put right before its maker and from which a task is taken that ends, has those that
+/// have not ended.
+pub fn ready_run()
+    ensures { ReadyRun }
+{}
+
+/// Its first is the first in English order.
+pub fn ready_is_first()
+    ensures { ReadyIsFirst }
+{}
+
+/// It is empty exactly where all tasks have ended.
+pub fn none_is_ready()
+    ensures { NoneIsReady }
+{}
+
+/// In a well-typed program the first task is out of steps, or may go on.
+pub fn first_may_go_on()
+    ensures { FirstMayGoOn }
 {}
 
 /// No path leads from the strand of a later entry to that of an earlier one, unless it is the same strand.

@@ -1,0 +1,6 @@
+pub mod Finding
+pub mod Histories
+pub mod Kept
+pub mod Laws
+pub mod Logged
+pub mod Touches

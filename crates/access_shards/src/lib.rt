@@ -1,0 +1,15 @@
+//! Which accesses of a cell have to be remembered so that no race is missed.
+//!
+//! A `CellLog` keeps of one cell the last write and the reads after it that no later read is joined with, or the first
+//! pair of places that race once there is one. The laws say that this is enough, over any kinds of access.
+#![tactic(auto)]
+
+mod finding;
+mod kept;
+pub mod laws;
+mod log;
+#[cfg(test)]
+mod tests;
+
+pub use kept::{Access, Accesses, Kept};
+pub use log::CellLog;

@@ -1,0 +1,9 @@
+pub mod Members
+pub mod Rising
+pub mod Uniting
+pub mod Greatest
+pub mod Leaving
+pub mod Agreeing
+pub mod Putting
+pub mod Reaching
+pub mod Events

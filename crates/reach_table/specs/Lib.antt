@@ -1,0 +1,4 @@
+pub mod Sorted
+pub mod Telling
+pub mod Merging
+pub mod Tabled
