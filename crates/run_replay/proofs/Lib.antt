@@ -1,0 +1,3 @@
+pub mod Readying
+pub mod Lining
+pub mod Acting
