@@ -20,39 +20,33 @@ use Rattle.fut_main.specs.declared.status.Status.TheVariants as status
 use Rattle.fut_main.specs.declared.words.Command.{Command}
 use Rattle.fut_main.specs.declared.words.Command.TheVariants as command
 use Rattle.fut_main.specs.RunText.{run_text}
-use Rattle.run_replay.specs.Serials.{EndsSerially}
+use Rattle.run_replay.specs.Serials.{IsSerialRun}
 use Rattle.fut_main.specs.Asking.{Asked, Asks}
 use Rattle.fut_main.specs.Outcomes.{ending_of, WasRun, OutcomeOf, TextWasRun, IsOutcome}
 use Rattle.fut_main.specs.Due.{verdict_text}
-use Rattle.fut_main.specs.Verdict.{IsRead, IsWellTypedText, IsIllTypedText, IsRunOf, IsSpent, EndsIn, IsOfRun, IsOfText, IsVerdict}
+use Rattle.fut_main.specs.Verdict.{IsRead, IsWellTypedText, IsIllTypedText, IsRunOf, EndsIn, IsOfRun, IsOfText, IsVerdict}
 
 -- ---- a program
 
-pub ends_in : (P : tree.Program) (bound : ℕ) (h : List Event) (races : List Race) (end : Finish) → EndsSerially P bound h end → IsReport h races → EndsIn P bound (ending_of end races) h races
-ends_in P bound h [] finish.Whole ends report = (record { legal = (ends.how.0, ends.how.1); bounded = ends.bounded; serial = ends.serial; report = report }, ends.how, refl)
-ends_in P bound h (r ∷ rs) finish.Whole ends report = (record { legal = (ends.how.0, ends.how.1); bounded = ends.bounded; serial = ends.serial; report = report }, ends.how, λ none. absurd (cc))
-ends_in P bound h races (finish.Events b) ends report =
-    let e = ends.how in
-    (
-      record { legal = ends.legal; bounded = ends.bounded; serial = ends.serial; report = report },
-      record { unfinished = e.unfinished; holds = e.holds; cause = e.cause },
-    )
-ends_in P bound h races (finish.Local t) ends report =
-    let e = ends.how in
-    (
-      record { legal = ends.legal; bounded = ends.bounded; serial = ends.serial; report = report },
-      record { unfinished = e.unfinished; holds = e.holds; cause = e.cause },
-    )
-ends_in P bound h races (finish.Futures t) ends report =
-    let e = ends.how in
-    (
-      record { legal = ends.legal; bounded = ends.bounded; serial = ends.serial; report = report },
-      record { unfinished = e.unfinished; holds = e.holds; cause = e.cause },
-    )
+not_whole_events : (b : ℕ) → finish.Events b ≡ finish.Whole → ⊥
+not_whole_events b h = cc
 
-pub run_ends : (o : Option tree.Program) (code : Compiled) (bound : ℕ) (h : List Event) (races : List Race) (end : Finish) (s : Status) → ((P : tree.Program) → o ≡ Some P → IsCodeOf P code) → ((P : tree.Program) → IsCodeOf P code → EndsSerially P bound h end) → IsReport h races → s ≡ ending_of end races → IfSome o (λ P. EndsIn P bound s h races)
-run_ends None code bound h races end s of ends report is = tt
-run_ends (Some P) code bound h races end s of ends report is = subst (λ x. EndsIn P bound x h races) (sym is) (ends_in P bound h races end (ends P (of P refl)) report)
+not_whole_local : (t : ℕ) → finish.Local t ≡ finish.Whole → ⊥
+not_whole_local t h = cc
+
+not_whole_futures : (t : ℕ) → finish.Futures t ≡ finish.Whole → ⊥
+not_whole_futures t h = cc
+
+pub ends_in : (P : tree.Program) (bound : ℕ) (h : List Event) (races : List Race) (end : Finish) → IsSerialRun P bound h end → IsReport h races → EndsIn P bound (ending_of end races) h races
+ends_in P bound h [] finish.Whole run report = (record { run = run; report = report }, refl)
+ends_in P bound h (r ∷ rs) finish.Whole run report = (record { run = run; report = report }, λ none. absurd (cc))
+ends_in P bound h races (finish.Events b) run report = (record { run = run; report = report }, not_whole_events b)
+ends_in P bound h races (finish.Local t) run report = (record { run = run; report = report }, not_whole_local t)
+ends_in P bound h races (finish.Futures t) run report = (record { run = run; report = report }, not_whole_futures t)
+
+pub run_ends : (o : Option tree.Program) (code : Compiled) (bound : ℕ) (h : List Event) (races : List Race) (end : Finish) (s : Status) → ((P : tree.Program) → o ≡ Some P → IsCodeOf P code) → IsSomeAnd o IsWellTyped → ((P : tree.Program) → IsWellTyped P → IsCodeOf P code → IsSerialRun P bound h end) → IsReport h races → s ≡ ending_of end races → IfSome o (λ P. EndsIn P bound s h races)
+run_ends None code bound h races end s of typed run report is = tt
+run_ends (Some P) code bound h races end s of typed run report is = subst (λ x. EndsIn P bound x h races) (sym is) (ends_in P bound h races end (run P typed (of P refl)) report)
 
 -- ---- a text
 

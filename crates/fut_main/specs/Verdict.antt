@@ -16,9 +16,7 @@ use Rattle.fut_syntax.specs.Texts.{IsProgram, IsFaultPlace}
 use Rattle.fut_check.specs.declared.fault.Fault.{Fault}
 use Rattle.fut_check.specs.Faults.{rule_number}
 use Rattle.fut_check.specs.Items.{IsWellTyped, IsFirstFault}
-use Rattle.task_machine.specs.Machine.{Machine, Running, opening, Leads, IsLegal, IsWhole, IsAllowed, FinishHolds}
-use Rattle.run_laws.specs.Laws.{IsFirst}
-use Rattle.run_replay.specs.Serials.{IsSerial, IsFirstAfter}
+use Rattle.run_replay.specs.Serials.{IsSerialRun}
 use Rattle.fut_main.specs.Asking.{Asked, Asks}
 use Rattle.fut_main.specs.Due.{syntax_text, type_text}
 use Rattle.fut_main.specs.RunText.{run_text}
@@ -68,37 +66,16 @@ IsPrinted bytes printed = (P : tree.Program) × IsWellTypedText bytes P × (prin
 
 -- ---- runs
 
--- a history is a legal execution of a program, of at most so many entries, each of the first task, in English order, of
--- those that have not ended; and these are its races
-pub record IsRunOf (P : tree.Program) (bound : ℕ) (h : List Event) (races : List Race) : Type 0 where
-  pub legal : IsLegal P h
-  pub bounded : length h ≤ bound
-  pub serial : IsSerial P h
+-- a history is the serial run of a program up to so many entries, which ended so, and these are its races
+pub record IsRunOf (P : tree.Program) (bound : ℕ) (h : List Event) (end : Finish) (races : List Race) : Type 0 where
+  pub run : IsSerialRun P bound h end
   pub report : IsReport h races
-
--- after the history some task may go on
-abbrev pub MayGoOn : tree.Program → List Event → Type 0
-MayGoOn P h = (m : Machine) × Leads P (opening P) h m × ((t : ℕ) × IsAllowed P m t)
-
--- why a run went no further: it had as many entries as were asked for, and some task may go on; or its first task was out
--- of steps, or wished to create a future more than a run may
-abbrev pub IsCause : tree.Program → ℕ → List Event → Finish → Type 0
-IsCause P bound h finish.Whole = ⊥
-IsCause P bound h (finish.Events b) = (b ≡ bound) × MayGoOn P h
-IsCause P bound h (finish.Local t) = IsFirstAfter P h t
-IsCause P bound h (finish.Futures t) = IsFirstAfter P h t
-
--- a run was spent: it is not whole, and this is why it ended
-pub record IsSpent (P : tree.Program) (bound : ℕ) (h : List Event) (end : Finish) : Type 0 where
-  pub unfinished : IsWhole P h → ⊥
-  pub holds : FinishHolds P h end
-  pub cause : IsCause P bound h end
 
 -- how the run of a program ended: whole without a race, whole with one, or spent
 abbrev pub EndsIn : tree.Program → ℕ → Status → List Event → List Race → Type 0
-EndsIn P bound status.Clean h races = IsRunOf P bound h races × IsWhole P h × (races ≡ [])
-EndsIn P bound status.Raced h races = IsRunOf P bound h races × IsWhole P h × (races ≢ [])
-EndsIn P bound (status.Spent end) h races = IsRunOf P bound h races × IsSpent P bound h end
+EndsIn P bound status.Clean h races = IsRunOf P bound h finish.Whole races × (races ≡ [])
+EndsIn P bound status.Raced h races = IsRunOf P bound h finish.Whole races × (races ≢ [])
+EndsIn P bound (status.Spent end) h races = IsRunOf P bound h end races × (end ≢ finish.Whole)
 EndsIn P bound _ h races = ⊥
 
 -- ---- verdicts

@@ -1,11 +1,6 @@
-//! The events of a run made one after the other: a run beside the machine of the definitions, and the serial run.
+//! Stub.
 #![tactic(auto)]
 
-mod copies;
+mod serials;
 
-pub mod line;
-pub mod replay;
-mod table;
-
-mod ready;
-
+pub use serials::serial;

