@@ -1,6 +1,0 @@
-//! Stub.
-#![tactic(auto)]
-
-mod serials;
-
-pub use serials::serial;
