@@ -1,0 +1,6 @@
+//! Flat code of any program, and the tasks that run it.
+#![tactic(auto)]
+
+pub mod frame;
+pub mod names;
+pub mod term;
