@@ -2,5 +2,6 @@
 #![tactic(auto)]
 
 pub mod frame;
+pub mod instruction;
 pub mod names;
 pub mod term;
