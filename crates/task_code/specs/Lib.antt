@@ -1,3 +1,5 @@
+pub mod Arrays
+pub mod Flat
 pub mod Frames
 pub mod Names
 pub mod Terms

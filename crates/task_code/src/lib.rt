@@ -1,7 +1,9 @@
 //! Flat code of any program, and the tasks that run it.
 #![tactic(auto)]
 
+pub mod cells;
 pub mod frame;
 pub mod instruction;
 pub mod names;
+pub mod scope;
 pub mod term;
