@@ -1,7 +1,7 @@
 -- Flat code, and what it is of a program.
 use Rattle.std.specs.Prelude.{◌≡◌, ℕ, ◌+◌, ◌≤◌, List, [], ◌∷◌, ◌++◌, slice_get, Option, Some, None, unwrap_or, pos}
 use Rattle.fut_syntax.specs.Trees as tree
-use Rattle.fut_syntax.specs.Views.{type_tree}
+use Rattle.fut_syntax.specs.Views.{items_tree}
 use Rattle.fut_syntax.specs.Small.{items_of}
 use Rattle.task_machine.specs.Variables.{Slot, Variables, slot_in, size_of}
 use Rattle.task_machine.specs.Texts.{CellArray, TaskText, arrays_from, cell_arrays, cell_count, tasks_of, main_of, find_task, stmts_of}
@@ -14,6 +14,7 @@ use Rattle.task_code.specs.declared.instruction.Source.{Source}
 use Rattle.task_code.specs.declared.instruction.Source.TheVariants as source
 use Rattle.task_code.specs.declared.instruction.Instruction.{Instruction}
 use Rattle.task_code.specs.declared.instruction.Instruction.TheVariants.{Set, Store, Branch, Spawn, Sync, Return}
+use Rattle.task_code.specs.declared.scope.Scope.{Scope}
 use Rattle.task_code.specs.Arrays.{find_array}
 use Rattle.task_code.specs.Names.{Holds, HasRoom, find_name, rooms_by}
 use Rattle.task_code.specs.Terms.{slot_by}
@@ -22,6 +23,10 @@ use Rattle.task_code.specs.Terms.{slot_by}
 pub record Place : Type 0 where
   pub items : List tree.Item
   pub names : List Name
+
+-- that of a scope of the code
+abbrev pub place_of : Scope → Place
+place_of s = record { items = items_tree s.items.now; names = s.names.now }
 
 -- a term gives the same as what it was made from, whatever the variables hold
 pub record Means (names : List Name) (gives : Variables → Slot) (t : Term) : Type 0 where

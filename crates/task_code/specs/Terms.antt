@@ -1,11 +1,12 @@
 -- What expressions with numbered variables give.
-use Rattle.std.specs.Prelude.{ℕ, List, [], ◌∷◌, flat_map, ℤ, pos}
+use Rattle.std.specs.Prelude.{◌≡◌, ℕ, List, [], ◌∷◌, flat_map, ℤ, pos}
 use Rattle.std.specs.Int.{w64, int_wrapping_neg}
 use Rattle.fut_base.specs.declared.record.Value.{Value}
 use Rattle.fut_base.specs.declared.record.Value.TheVariants.{Int}
+use Rattle.fut_syntax.specs.Trees as tree
 use Rattle.fut_syntax.specs.Views.{op_tree}
 use Rattle.task_machine.specs.Values.{number_of, truth, is_zero, combine}
-use Rattle.task_machine.specs.Variables.{Slot, One, value_of, values_of}
+use Rattle.task_machine.specs.Variables.{Slot, One, value_of, values_of, signed}
 use Rattle.task_code.specs.declared.term.Term.{Term, Number, Variable, Negative', Inverted', Pair', more_of-Term}
 use Rattle.task_code.specs.Frames.{slot_in_place}
 
@@ -27,3 +28,7 @@ value_by slots t = value_of (slot_by slots t)
 -- the values of arguments, an array as its elements
 abbrev pub values_by : List Slot → List Term → List Value
 values_by slots ts = flat_map (λ t. values_of (slot_by slots t)) ts
+
+-- a term gives what a sign makes of another one
+pub record IsSigned (sign : tree.Sign) (of t : Term) : Type 0 where
+  pub same : (slots : List Slot) → slot_by slots t ≡ signed sign (slot_by slots of)

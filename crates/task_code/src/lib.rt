@@ -2,6 +2,7 @@
 #![tactic(auto)]
 
 pub mod cells;
+mod compile;
 pub mod frame;
 pub mod instruction;
 pub mod names;
