@@ -1,10 +1,13 @@
 //! Statements become instructions.
-ghost use Rattle.std.specs.Prelude.{◌≡◌, ◌<◌, ◌^◌, ◌∷◌, ◌++◌, [], length, IfOk, map, Some};
+ghost use Rattle.std.specs.Prelude.{ℕ, ◌≡◌, ◌<◌, ◌^◌, ◌∷◌, ◌++◌, [], length, IfOk, map, Some};
 ghost use Rattle.fut_syntax.specs.Trees.{Signed};
 ghost use Rattle.fut_syntax.specs.Views.{sign_tree, expr_tree, operand_tree, primary_tree, init_tree, type_tree, args_tree, stmt_tree, block_tree, tail_tree, items_tree};
 ghost use Rattle.task_machine.specs.Variables.{slot_in, operand_in, primary_in};
 ghost use Rattle.task_machine.specs.Texts.{tasks_from, number_from};
 ghost use Rattle.task_code.specs.Terms.{IsSigned};
+ghost use Rattle.task_machine.specs.Texts.{find_task};
+ghost use Rattle.task_code.specs.declared.instruction.Fill.TheVariants as fill;
+ghost use Rattle.task_code.specs.declared.instruction.Instruction.TheVariants.{Set, Spawn};
 ghost use Rattle.task_code.specs.Names.{find_name, rooms_by, HasRoom};
 ghost use Rattle.task_code.specs.Flat.{place_of, fill_of, Means, MeanAll, IsSource, IsDone, DoesStmt, DoesBlock, DoesTail, Grows, Stands};
 
@@ -176,5 +179,240 @@ fn fill_for(names: &[Name], variable: u32, kind: &VarType) -> Result<Fill, NoMem
             }
             None => Err(NoMemory),
         },
+    }
+}
+
+/// The instruction of a statement that holds no others.
+fn instruction_of(
+    alloc: Global,
+    scope: &Scope,
+    stmt: &Stmt,
+    next: u32,
+) -> Result<Instruction, NoMemory>
+    ensures { IfOk result (λ i. IsDone (place_of scope.now) (stmt_tree stmt.now) next i) }
+{
+    match stmt {
+        Stmt::Declare(word, kind) => {
+            let target = target_of(scope, word.as_slice(), kind)?;
+            Ok(Instruction::Set {
+                target,
+                source: Source::Value(Term::Number(0)),
+                next,
+            })
+        }
+        Stmt::Define(word, kind, init) => {
+            let target = target_of(scope, word.as_slice(), kind)?;
+            let source = source_of(alloc, scope, init)?;
+            Ok(Instruction::Set {
+                target,
+                source,
+                next,
+            })
+        }
+        Stmt::Assign(word, init) => {
+            let source = source_of(alloc, scope, init)?;
+            assignment(scope, word.as_slice(), source, next)
+        }
+        Stmt::Store(word, index, value) => {
+            let index = term_of(alloc, scope, index)?;
+            let value = term_of(alloc, scope, value)?;
+            Ok(Instruction::Store {
+                variable: find(scope.names, word.as_slice()),
+                array: find_array(scope.arrays, word.as_slice()),
+                index,
+                value,
+                next,
+            })
+        }
+        Stmt::Spawn(word, args) => {
+            let args = terms_of(alloc, scope, args.as_slice())?;
+            spawning(scope, word.as_slice(), args, next)
+        }
+        Stmt::Sync => Ok(Instruction::Sync { next }),
+        Stmt::Return(value) => Ok(Instruction::Return {
+            value: term_of(alloc, scope, value)?,
+        }),
+        Stmt::If(_, _, _) | Stmt::While(_, _) => Err(NoMemory),
+    }
+}
+
+/// Sets all of a variable.
+fn assignment(
+    scope: &Scope,
+    word: &[u8],
+    source: Source,
+    next: u32,
+) -> Result<Instruction, NoMemory>
+    ensures { IfOk result (λ i. (n : ℕ) × (find_name scope.now.names.now word.now ≡ Some n) × (i ≡ Set (record { variable = n; fill = fill.Again }) source next)) }
+{
+    match find(scope.names, word) {
+        Some(variable) => Ok(Instruction::Set {
+            target: Target {
+                variable,
+                fill: Fill::Again,
+            },
+            source,
+            next,
+        }),
+        None => Err(NoMemory),
+    }
+}
+
+/// Spawns the task of a name.
+fn spawning(
+    scope: &Scope,
+    word: &[u8],
+    args: Items<Term>,
+    next: u32,
+) -> Result<Instruction, NoMemory>
+    ensures { IfOk result (λ i. (n : ℕ) × (find_task (items_tree scope.now.items.now) word.now ≡ Some n) × (i ≡ Spawn n args next)) }
+{
+    match task_number(scope.items, word) {
+        Some(which) => Ok(Instruction::Spawn { which, args, next }),
+        None => Err(NoMemory),
+    }
+}
+
+/// Adds an instruction, and tells its place.
+fn push(code: &mut Vec<Instruction>, instruction: Instruction) -> Result<u32, NoMemory>
+    ensures { IfOk result (λ at. (code.new.items ≡ code.old.items ++ instruction ∷ []) × (at ≡ length code.old.items)) }
+{
+    let at = narrow(code.len() as u64)?;
+    code.push(instruction)?;
+    Ok(at)
+}
+
+/// How many instructions a block becomes.
+#[cycle(sizes)]
+fn block_size(stmts: &[Stmt]) -> u64 {
+    let mut size: u64 = 0;
+    for stmt in stmts {
+        size = size.saturating_add(stmt_size(stmt));
+    }
+    size
+}
+
+#[cycle(sizes)]
+fn stmt_size(stmt: &Stmt) -> u64 {
+    match stmt {
+        Stmt::If(_, body, tail) => block_size(body.as_slice())
+            .saturating_add(tail_size(tail))
+            .saturating_add(1),
+        Stmt::While(_, body) => block_size(body.as_slice()).saturating_add(1),
+        Stmt::Declare(_, _)
+        | Stmt::Define(_, _, _)
+        | Stmt::Assign(_, _)
+        | Stmt::Store(_, _, _)
+        | Stmt::Spawn(_, _)
+        | Stmt::Sync
+        | Stmt::Return(_) => 1,
+    }
+}
+
+#[cycle(sizes)]
+fn tail_size(tail: &Tail) -> u64 {
+    match tail {
+        Tail::None => 0,
+        Tail::Else(body) => block_size(body.as_slice()),
+    }
+}
+
+/// Adds the instructions of a block that goes on at a place, and tells where it is entered. It begins at the last statement,
+/// so that each one knows where it goes on.
+#[cycle(statements)]
+pub fn add_block(
+    alloc: Global,
+    scope: &Scope,
+    stmts: &[Stmt],
+    next: u32,
+    code: &mut Vec<Instruction>,
+) -> Result<u32, NoMemory>
+    ensures { IfOk result (λ entry. Grows code.old.items code.new.items × DoesBlock (place_of scope.now) code.new.items (block_tree stmts.now) next entry) }
+{
+    let mut entry = next;
+    for index in (0..stmts.len()).rev() {
+        entry = add_stmt(alloc, scope, &stmts[index], entry, code)?;
+    }
+    Ok(entry)
+}
+
+/// Adds the instructions of a statement.
+#[cycle(statements)]
+fn add_stmt(
+    alloc: Global,
+    scope: &Scope,
+    stmt: &Stmt,
+    next: u32,
+    code: &mut Vec<Instruction>,
+) -> Result<u32, NoMemory>
+    ensures { IfOk result (λ entry. Grows code.old.items code.new.items × DoesStmt (place_of scope.now) code.new.items (stmt_tree stmt.now) next entry) }
+{
+    match stmt {
+        Stmt::If(test, body, tail) => {
+            let test = term_of(alloc, scope, test)?;
+            let otherwise = add_tail(alloc, scope, tail, next, code)?;
+            let then = add_block(alloc, scope, body.as_slice(), next, code)?;
+            push(
+                code,
+                Instruction::Branch {
+                    test,
+                    then,
+                    otherwise,
+                },
+            )
+        }
+        Stmt::While(test, body) => {
+            let test = term_of(alloc, scope, test)?;
+            let size = block_size(body.as_slice());
+            let entry = narrow((code.len() as u64).saturating_add(size))?;
+            let then = add_block(alloc, scope, body.as_slice(), entry, code)?;
+            let at = push(
+                code,
+                Instruction::Branch {
+                    test,
+                    then,
+                    otherwise: next,
+                },
+            )?;
+            if at == entry { Ok(at) } else { Err(NoMemory) }
+        }
+        Stmt::Declare(_, _)
+        | Stmt::Define(_, _, _)
+        | Stmt::Assign(_, _)
+        | Stmt::Store(_, _, _)
+        | Stmt::Spawn(_, _)
+        | Stmt::Sync
+        | Stmt::Return(_) => add_one(alloc, scope, stmt, next, code),
+    }
+}
+
+/// Adds the instruction of a statement that holds no others.
+fn add_one(
+    alloc: Global,
+    scope: &Scope,
+    stmt: &Stmt,
+    next: u32,
+    code: &mut Vec<Instruction>,
+) -> Result<u32, NoMemory>
+    ensures { IfOk result (λ entry. Grows code.old.items code.new.items × Stands code.new.items entry (IsDone (place_of scope.now) (stmt_tree stmt.now) next)) }
+{
+    let instruction = instruction_of(alloc, scope, stmt, next)?;
+    push(code, instruction)
+}
+
+/// Adds the instructions of the other branch of an `if`.
+#[cycle(statements)]
+fn add_tail(
+    alloc: Global,
+    scope: &Scope,
+    tail: &Tail,
+    next: u32,
+    code: &mut Vec<Instruction>,
+) -> Result<u32, NoMemory>
+    ensures { IfOk result (λ entry. Grows code.old.items code.new.items × DoesTail (place_of scope.now) code.new.items (tail_tree tail.now) next entry) }
+{
+    match tail {
+        Tail::None => Ok(next),
+        Tail::Else(body) => add_block(alloc, scope, body.as_slice(), next, code),
     }
 }
