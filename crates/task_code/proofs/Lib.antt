@@ -1,3 +1,4 @@
 pub mod Evaluating
+pub mod Growing
 pub mod Laying
 pub mod Meaning
