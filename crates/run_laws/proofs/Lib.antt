@@ -1,0 +1,13 @@
+pub mod Ended
+pub mod Handles
+pub mod Holding
+pub mod Late
+pub mod Making
+pub mod Mirrored
+pub mod Once
+pub mod Pasts
+pub mod Ready
+pub mod Sound
+pub mod Stuck
+pub mod Typed
+pub mod Waits

@@ -1,0 +1,11 @@
+pub mod Calling
+pub mod Given
+pub mod Growing
+pub mod Mains
+pub mod Running
+pub mod Slots
+pub mod States
+pub mod Stepping
+pub mod Texts
+pub mod Wishes
+pub mod Wishing
