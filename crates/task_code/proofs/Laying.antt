@@ -206,7 +206,7 @@ none_opened values ps i n g = ([], omega (arith, room_past ps i g), set_nothing 
 
 -- ---- elements are set one after the other
 
-below_or : (i n : ℕ) → (i < n) ⊎ (n ≤ i)
+pub below_or : (i n : ℕ) → (i < n) ⊎ (n ≤ i)
 below_or zero zero = inr (omega arith)
 below_or zero (suc n) = inl (omega arith)
 below_or (suc i) zero = inr (omega arith)

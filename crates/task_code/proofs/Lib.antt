@@ -2,3 +2,4 @@ pub mod Evaluating
 pub mod Growing
 pub mod Laying
 pub mod Meaning
+pub mod Whole

@@ -1,8 +1,9 @@
 -- Flat code, and what it is of a program.
 use Rattle.std.specs.Prelude.{◌≡◌, ℕ, ◌+◌, ◌≤◌, List, [], ◌∷◌, ◌++◌, slice_get, Option, Some, None, unwrap_or, pos}
 use Rattle.fut_syntax.specs.Trees as tree
-use Rattle.fut_syntax.specs.Views.{items_tree}
+use Rattle.fut_syntax.specs.Views.{type_tree, items_tree}
 use Rattle.fut_syntax.specs.Small.{items_of}
+use Rattle.fut_check.specs.Items.{IsWellTyped}
 use Rattle.task_machine.specs.Variables.{Slot, Variables, slot_in, size_of}
 use Rattle.task_machine.specs.Texts.{CellArray, TaskText, arrays_from, cell_arrays, cell_count, tasks_of, main_of, find_task, stmts_of}
 use Rattle.task_code.specs.declared.term.Term.{Term, Number}
@@ -15,6 +16,8 @@ use Rattle.task_code.specs.declared.instruction.Source.TheVariants as source
 use Rattle.task_code.specs.declared.instruction.Instruction.{Instruction}
 use Rattle.task_code.specs.declared.instruction.Instruction.TheVariants.{Set, Store, Branch, Spawn, Sync, Return}
 use Rattle.task_code.specs.declared.scope.Scope.{Scope}
+use Rattle.task_code.specs.declared.code.Given.{Given}
+use Rattle.task_code.specs.declared.code.TaskCode.{TaskCode}
 use Rattle.task_code.specs.Arrays.{find_array}
 use Rattle.task_code.specs.Names.{Holds, HasRoom, find_name, rooms_by}
 use Rattle.task_code.specs.Terms.{slot_by}
@@ -99,3 +102,40 @@ abbrev mutual
 pub record Grows (old new : List Instruction) : Type 0 where
   pub more : List Instruction
   pub is : new ≡ old ++ more
+
+-- ---- whole code
+
+-- the parameters of a task, from a number of argument values on: their variables, where their values begin, and their types
+abbrev pub AreGiven : List Name → ℕ → List tree.Param → List Given → Type 0
+AreGiven names at [] [] = Unit {0}
+AreGiven names at [] (_ ∷ _) = ⊥
+AreGiven names at (_ ∷ _) [] = ⊥
+AreGiven names at (p ∷ ps) (x ∷ xs) =
+    (find_name names p.name ≡ Some x.variable) × (x.first ≡ at) × (type_tree x.kind ≡ p.type) × HasRoom (rooms_by names) x.variable p.type × AreGiven names (at + size_of p.type) ps xs
+
+-- what code shows: the arrays of cells, the code of each task, the place of `main`, and the number of cells
+pub record Compiled : Type 0 where
+  pub arrays : List CellArray
+  pub tasks : List TaskCode
+  pub main : ℕ
+  pub cells : ℕ
+
+-- this is the code of a task: at its place 0 a body ends, as by `return 0;`
+pub record IsCodeOfTask (items : List tree.Item) (t : TaskText) (code : TaskCode) : Type 0 where
+  pub does : DoesBlock (record { items = items; names = code.names }) code.instructions t.body 0 code.entry
+  pub ends : slice_get code.instructions 0 ≡ Some (Return (Number (pos 0)))
+  pub given : AreGiven code.names 0 t.params code.params
+
+abbrev pub AreCodesOf : List tree.Item → List TaskText → List TaskCode → Type 0
+AreCodesOf items [] [] = Unit {0}
+AreCodesOf items [] (_ ∷ _) = ⊥
+AreCodesOf items (_ ∷ _) [] = ⊥
+AreCodesOf items (t ∷ texts) (code ∷ codes) = IsCodeOfTask items t code × AreCodesOf items texts codes
+
+-- this is the code of a well-typed program
+pub record IsCodeOf (P : tree.Program) (code : Compiled) : Type 0 where
+  pub typed : IsWellTyped P
+  pub arrays : code.arrays ≡ cell_arrays P
+  pub tasks : AreCodesOf (items_of P) (tasks_of P) code.tasks
+  pub main : code.main ≡ main_of P
+  pub cells : code.cells ≡ cell_count P

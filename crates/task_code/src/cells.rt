@@ -1,5 +1,5 @@
 //! Arrays of cells.
-ghost use Rattle.std.specs.Prelude.{◌≡◌, ◌+◌, ◌<◌, ◌≤◌, ◌^◌, length, IfOk, IfSome};
+ghost use Rattle.std.specs.Prelude.{◌≡◌, ◌+◌, ◌<◌, ◌≤◌, ◌^◌, length, IfOk, MatchOption};
 ghost use Rattle.fut_syntax.specs.Views.{items_tree};
 ghost use Rattle.task_machine.specs.Texts.{arrays_from, count_cells};
 ghost use Rattle.task_machine.specs.Values.{index_of};
@@ -39,9 +39,9 @@ impl CellArray {
         self.first + index_of(self.length, index)
     }
 
-    /// Whether it has a cell.
-    pub fn has(&self, cell: u32) -> Option<u32>
-        ensures { IfSome result (λ index. (self.now.first + index ≡ cell) × (index < self.now.length)) }
+    /// The index of a cell; `None` exactly where the cell is none of it.
+    pub fn index(&self, cell: u32) -> Option<u32>
+        ensures { MatchOption result (self.now.first ≤ cell → cell < self.now.first + self.now.length → ⊥) (λ index. (self.now.first + index ≡ cell) × (index < self.now.length)) }
     {
         if self.first <= cell && cell - self.first < self.length {
             Some(cell - self.first)

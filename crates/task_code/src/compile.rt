@@ -164,7 +164,7 @@ fn target_of(scope: &Scope, word: &[u8], kind: &VarType) -> Result<Target, NoMem
 }
 
 /// What becomes of a variable of this type, where it has room for that.
-fn fill_for(names: &[Name], variable: u32, kind: &VarType) -> Result<Fill, NoMemory>
+pub fn fill_for(names: &[Name], variable: u32, kind: &VarType) -> Result<Fill, NoMemory>
     ensures { IfOk result (λ f. HasRoom (rooms_by names.now) variable (type_tree kind.now) × (f ≡ fill_of (type_tree kind.now))) }
 {
     match kind {
@@ -274,7 +274,7 @@ fn spawning(
 }
 
 /// Adds an instruction, and tells its place.
-fn push(code: &mut Vec<Instruction>, instruction: Instruction) -> Result<u32, NoMemory>
+pub fn push(code: &mut Vec<Instruction>, instruction: Instruction) -> Result<u32, NoMemory>
     ensures { IfOk result (λ at. (code.new.items ≡ code.old.items ++ instruction ∷ []) × (at ≡ length code.old.items)) }
 {
     let at = narrow(code.len() as u64)?;

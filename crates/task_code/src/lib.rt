@@ -2,6 +2,7 @@
 #![tactic(auto)]
 
 pub mod cells;
+pub mod code;
 mod compile;
 pub mod frame;
 pub mod instruction;
