@@ -2,4 +2,5 @@ pub mod Evaluating
 pub mod Growing
 pub mod Laying
 pub mod Meaning
+pub mod Simulating
 pub mod Whole

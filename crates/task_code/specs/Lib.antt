@@ -2,4 +2,5 @@ pub mod Arrays
 pub mod Flat
 pub mod Frames
 pub mod Names
+pub mod Tasks
 pub mod Terms

@@ -58,24 +58,28 @@ local_source slots (source.Element v a t) = element_of (slot_for slots v) (numbe
 local_source slots (source.Get n) = None
 local_source slots (source.Create n ts) = None
 
-abbrev pub set_moves : Held → Target → ℕ → Option Value → Option Moved
-set_moves f t next None = None
-set_moves f t next (Some v) = Some (record { next = next; slots = aimed f t v })
+abbrev pub set_slots : Held → Target → Option Value → Option (List Slot)
+set_slots f t None = None
+set_slots f t (Some v) = Some (aimed f t v)
 
 abbrev pub array_set : List Slot → Option ℕ → List Value → List Slot
 array_set slots None vs = slots
 array_set slots (Some n) vs = slice_set slots n (Many vs)
 
-abbrev pub store_moves : Held → Option ℕ → ℕ → Slot → ℤ → Value → Option Moved
-store_moves f v next (One _) z x = None
-store_moves f v next (Many vs) z x = Some (record { next = next; slots = array_set f.slots v (slice_set vs (index_of (length vs) z) x) })
+abbrev pub store_slots : List Slot → Option ℕ → Slot → ℤ → Value → Option (List Slot)
+store_slots slots v (One _) z x = None
+store_slots slots v (Many vs) z x = Some (array_set slots v (slice_set vs (index_of (length vs) z) x))
+
+abbrev pub moved_to : ℕ → Option (List Slot) → Option Moved
+moved_to next None = None
+moved_to next (Some slots) = Some (record { next = next; slots = slots })
 
 -- the local step of an instruction; none where it stands at an event
 abbrev pub moves : Held → Option Instruction → Option Moved
 moves f None = None
-moves f (Some (Set t s next)) = set_moves f t next (local_source f.slots s)
-moves f (Some (Store v a e g next)) = store_moves f v next (slot_for f.slots v) (number_by f.slots e) (value_by f.slots g)
-moves f (Some (Branch t then otherwise)) = Some (record { next = (if is_zero (number_by f.slots t) then otherwise else then); slots = f.slots })
+moves f (Some (Set t s next)) = moved_to next (set_slots f t (local_source f.slots s))
+moves f (Some (Store v a e g next)) = moved_to next (store_slots f.slots v (slot_for f.slots v) (number_by f.slots e) (value_by f.slots g))
+moves f (Some (Branch t here otherwise)) = Some (record { next = (if is_zero (number_by f.slots t) then otherwise else here); slots = f.slots })
 moves f (Some (Spawn n ts next)) = None
 moves f (Some (Sync next)) = None
 moves f (Some (Return t)) = None
@@ -91,7 +95,7 @@ abbrev pub wished : List CellArray → List Slot → Bool → Option Instruction
 wished arrays slots is_open None = end_of is_open (Int (pos 0))
 wished arrays slots is_open (Some (Set t s next)) = wished_source arrays slots s
 wished arrays slots is_open (Some (Store v a e g next)) = write_of (cell_for arrays a (number_by slots e)) (number_by slots g)
-wished arrays slots is_open (Some (Branch t then otherwise)) = state.NoWish
+wished arrays slots is_open (Some (Branch t here otherwise)) = state.NoWish
 wished arrays slots is_open (Some (Spawn n ts next)) = state.ToSpawn n (values_by slots ts)
 wished arrays slots is_open (Some (Sync next)) = state.ToSync
 wished arrays slots is_open (Some (Return t)) = end_of is_open (value_by slots t)

@@ -8,4 +8,6 @@ pub mod frame;
 pub mod instruction;
 pub mod names;
 pub mod scope;
+mod steps;
+pub mod task;
 pub mod term;
