@@ -1,4 +1,5 @@
 pub mod Evaluating
+pub mod Feeding
 pub mod Growing
 pub mod Laying
 pub mod Meaning

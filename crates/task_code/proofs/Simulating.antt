@@ -13,6 +13,7 @@ use Rattle.task_machine.specs.Texts.{CellArray, cell_arrays, cell_at, find_cell,
 use Rattle.task_machine.specs.State.{TaskState, Wish, ToSpawn, element_of, local_value, init_step, store_step, step_by, first_step, local_step, goes_on, set_by, read_of, write_of, get_of, spawn_of, create_of, end_of, wish_of_init, wish_by, wish_of}
 use Rattle.task_types.proofs.Slots.{by_bool, some_one, no_some, same_word, word_is, not_both, slot_put_same, slot_put_other}
 use Rattle.task_code.specs.declared.term.Term.{Term, Number}
+use Rattle.task_code.specs.declared.frame.Shape.TheVariants as shape
 use Rattle.task_code.specs.declared.names.Name.{Name}
 use Rattle.task_code.specs.declared.code.TaskCode.{TaskCode}
 use Rattle.task_code.specs.declared.instruction.Fill.TheVariants as fill
@@ -22,7 +23,7 @@ use Rattle.task_code.specs.declared.instruction.Source.TheVariants as source
 use Rattle.task_code.specs.declared.instruction.Instruction.{Instruction}
 use Rattle.task_code.specs.declared.instruction.Instruction.TheVariants.{Set, Store, Branch, Spawn, Sync, Return}
 use Rattle.task_code.specs.Arrays.{array_from, find_array, cell_in, cell_for}
-use Rattle.task_code.specs.Frames.{Held, slot_in_place, slot_for, zero_slot}
+use Rattle.task_code.specs.Frames.{Held, slot_in_place, slot_for, zero_slot, shape_of, with_element}
 use Rattle.task_code.specs.Names.{find_from, find_name, rooms_by, Holds, HasRoom}
 use Rattle.task_code.specs.Terms.{number_by, slot_by, value_by, values_by}
 use Rattle.task_code.specs.Flat.{Place, Means, MeansExpr, MeanAll, IsSource, IsDone, DoesStmt, DoesBlock, DoesTail, fill_of}
@@ -191,17 +192,17 @@ store_case P t is_open held vars w e f rest a b next (Some n) (Many vs) h found 
 at_code : (P : tree.Program) (t : TaskCode) (is_open : Bool) (held : Held) (s : TaskState) (o p : Option Instruction) → p ≡ o → Followed P t is_open held s o (moves held o) → Followed P t is_open held s p (moves held p)
 at_code P t is_open held s o p e f = subst (λ q. Followed P t is_open held s q (moves held q)) (sym e) f
 
-branch_case : (P : tree.Program) (t : TaskCode) (is_open : Bool) (held : Held) (vars : Variables) (stmt : tree.Stmt) (rest : List tree.Stmt) (test : Term) (then otherwise : ℕ) (e : tree.Expr) (yes no : List tree.Stmt) → Holds t.names vars held.slots → number_by held.slots test ≡ number_in vars e
-    → local_step (record { vars = vars; todo = stmt ∷ rest; is_open = is_open }) ≡ Some (record { vars = vars; todo = cond (is_zero (number_in vars e)) no yes; is_open = is_open })
-    → Does (where_of P t) t.instructions then yes → Does (where_of P t) t.instructions otherwise no
+branch_case : (P : tree.Program) (t : TaskCode) (is_open : Bool) (held : Held) (vars : Variables) (stmt : tree.Stmt) (rest : List tree.Stmt) (test : Term) (then otherwise : ℕ) (e : tree.Expr) (this that : List tree.Stmt) → Holds t.names vars held.slots → number_by held.slots test ≡ number_in vars e
+    → local_step (record { vars = vars; todo = stmt ∷ rest; is_open = is_open }) ≡ Some (record { vars = vars; todo = cond (is_zero (number_in vars e)) that this; is_open = is_open })
+    → Does (where_of P t) t.instructions then this → Does (where_of P t) t.instructions otherwise that
     → Followed P t is_open held (record { vars = vars; todo = stmt ∷ rest; is_open = is_open }) (Some (Branch test then otherwise)) (moves held (Some (Branch test then otherwise)))
-branch_case P t is_open held vars stmt rest test then otherwise e yes no h same step a b =
+branch_case P t is_open held vars stmt rest test then otherwise e this that h same step a b =
     (
-      record { vars = vars; todo = cond (is_zero (number_in vars e)) no yes; is_open = is_open },
+      record { vars = vars; todo = cond (is_zero (number_in vars e)) that this; is_open = is_open },
       step,
       h,
-      subst (λ z. Does (where_of P t) t.instructions (cond (is_zero z) otherwise then) (cond (is_zero (number_in vars e)) no yes)) (sym same)
-      (by_bool (λ c. Does (where_of P t) t.instructions (cond c otherwise then) (cond c no yes)) (is_zero (number_in vars e)) (λ q. b) (λ q. a)),
+      subst (λ z. Does (where_of P t) t.instructions (cond (is_zero z) otherwise then) (cond (is_zero (number_in vars e)) that this)) (sym same)
+      (by_bool (λ c. Does (where_of P t) t.instructions (cond c otherwise then) (cond c that this)) (is_zero (number_in vars e)) (λ q. b) (λ q. a)),
       refl,
     )
 
@@ -209,44 +210,62 @@ pub stmt_followed : (P : tree.Program) (t : TaskCode) (is_open : Bool) (held : H
     → DoesStmt (where_of P t) t.instructions stmt next place → Does (where_of P t) t.instructions next rest
     → Followed P t is_open held (record { vars = vars; todo = stmt ∷ rest; is_open = is_open }) (slice_get t.instructions place) (moves held (slice_get t.instructions place))
 stmt_followed P t is_open held vars (tree.Declare w type) rest place next h rooms (i, there, (n, found, room, is)) does =
-    at_code P t is_open held _ (Some (Set (record { variable = n; fill = fill_of type }) (source.Value (Number (pos 0))) next)) _ (there ∙ ap Some is)
+    let target : Target = record { variable = n; fill = fill_of type } in
+    at_code P t is_open held (record { vars = vars; todo = tree.Declare w type ∷ rest; is_open = is_open }) (Some (Set target (source.Value (Number (pos 0))) next)) _ (there ∙ ap Some is)
     (_, refl, holds_filled t.names vars held w n type (Int (pos 0)) h rooms found room, does, refl)
 stmt_followed P t is_open held vars (tree.Define w type init) rest place next h rooms (i, there, (n, s, found, room, from, is)) does =
-    let target = record { variable = n; fill = fill_of type } in
+    let target : Target = record { variable = n; fill = fill_of type } in
     let same = same_local (where_of P t) vars held.slots init s h from in
-    at_code P t is_open held _ (Some (Set target s next)) _ (there ∙ ap Some is)
+    at_code P t is_open held (record { vars = vars; todo = tree.Define w type init ∷ rest; is_open = is_open }) (Some (Set target s next)) _ (there ∙ ap Some is)
     (subst (λ o. Followed P t is_open held (record { vars = vars; todo = tree.Define w type init ∷ rest; is_open = is_open }) (Some (Set target s next)) (moved_to next (set_slots held target o))) (sym same)
     (set_case P t is_open held vars (tree.Define w type init) rest target s next init (local_value vars init) (λ v. holds_filled t.names vars held w n type v h rooms found room) same (same_wish P t.names vars held.slots init s h from) refl refl does))
 stmt_followed P t is_open held vars (tree.Assign w init) rest place next h rooms (i, there, (n, s, found, from, is)) does =
-    let target = record { variable = n; fill = fill.Again } in
+    let target : Target = record { variable = n; fill = fill.Again } in
     let same = same_local (where_of P t) vars held.slots init s h from in
-    at_code P t is_open held _ (Some (Set target s next)) _ (there ∙ ap Some is)
+    at_code P t is_open held (record { vars = vars; todo = tree.Assign w init ∷ rest; is_open = is_open }) (Some (Set target s next)) _ (there ∙ ap Some is)
     (subst (λ o. Followed P t is_open held (record { vars = vars; todo = tree.Assign w init ∷ rest; is_open = is_open }) (Some (Set target s next)) (moved_to next (set_slots held target o))) (sym same)
     (set_case P t is_open held vars (tree.Assign w init) rest target s next init (local_value vars init) (λ v. holds_refilled t.names vars held w n v h found) same (same_wish P t.names vars held.slots init s h from) refl refl does))
 stmt_followed P t is_open held vars (tree.Store w e f) rest place next h rooms (i, there, (a, b, index, value, is)) does =
-    at_code P t is_open held _ (Some (Store (find_name t.names w) (find_array (cell_arrays P) w) a b next)) _ (there ∙ ap Some is)
+    at_code P t is_open held (record { vars = vars; todo = tree.Store w e f ∷ rest; is_open = is_open }) (Some (Store (find_name t.names w) (find_array (cell_arrays P) w) a b next)) _ (there ∙ ap Some is)
     (store_case P t is_open held vars w e f rest a b next (find_name t.names w) (slot_for held.slots (find_name t.names w)) h refl refl (h.each w) (same_number t.names vars held.slots e a h index) (same_value t.names vars held.slots f b h value) (same_number t.names vars held.slots f b h value) does)
 stmt_followed P t is_open held vars (tree.SpawnOf w es) rest place next h rooms (i, there, (n, ts, found, means, is)) does =
-    at_code P t is_open held _ (Some (Spawn n ts next)) _ (there ∙ ap Some is)
+    at_code P t is_open held (record { vars = vars; todo = tree.SpawnOf w es ∷ rest; is_open = is_open }) (Some (Spawn n ts next)) _ (there ∙ ap Some is)
     (refl, ap (λ o. spawn_of o (values_in vars es)) found ∙ ap (ToSpawn n) (sym (same_values t.names vars held.slots es ts h means)))
-stmt_followed P t is_open held vars tree.SyncAll rest place next h rooms (i, there, is) does = at_code P t is_open held _ (Some (Sync next)) _ (there ∙ ap Some is) (refl, refl)
+stmt_followed P t is_open held vars tree.SyncAll rest place next h rooms (i, there, is) does = at_code P t is_open held (record { vars = vars; todo = tree.SyncAll ∷ rest; is_open = is_open }) (Some (Sync next)) _ (there ∙ ap Some is) (refl, refl)
 stmt_followed P t is_open held vars (tree.Return' e) rest place next h rooms (i, there, (v, means, is)) does =
-    at_code P t is_open held _ (Some (Return v)) _ (there ∙ ap Some is) (refl, ap (end_of is_open) (sym (same_value t.names vars held.slots e v h means)))
+    at_code P t is_open held (record { vars = vars; todo = tree.Return' e ∷ rest; is_open = is_open }) (Some (Return v)) _ (there ∙ ap Some is) (refl, ap (end_of is_open) (sym (same_value t.names vars held.slots e v h means)))
 stmt_followed P t is_open held vars (tree.If' e b o) rest place next h rooms (test, then, otherwise, means, there, block, tail) does =
-    at_code P t is_open held _ (Some (Branch test then otherwise)) _ there
+    at_code P t is_open held (record { vars = vars; todo = tree.If' e b o ∷ rest; is_open = is_open }) (Some (Branch test then otherwise)) _ there
     (branch_case P t is_open held vars (tree.If' e b o) rest test then otherwise e (stmts_of b ++ rest) (else_of o ++ rest) h (same_number t.names vars held.slots e test h means) refl
       (does_append (where_of P t) t.instructions b next then rest block does) (does_tail (where_of P t) t.instructions o next otherwise rest tail does))
 stmt_followed P t is_open held vars (tree.While' e b) rest place next h rooms (test, then, means, there, block) does =
-    at_code P t is_open held _ (Some (Branch test then next)) _ there
+    at_code P t is_open held (record { vars = vars; todo = tree.While' e b ∷ rest; is_open = is_open }) (Some (Branch test then next)) _ there
     (branch_case P t is_open held vars (tree.While' e b) rest test then next e (stmts_of b ++ tree.While' e b ∷ rest) rest h (same_number t.names vars held.slots e test h means) refl
       (does_append (where_of P t) t.instructions b place then (tree.While' e b ∷ rest) block (next, (test, then, means, there, block), does)) does)
 
 -- a body ends
 end_followed : (P : tree.Program) (t : TaskCode) (is_open : Bool) (held : Held) (vars : Variables) (o : Option Instruction) → IsEnd o → Followed P t is_open held (record { vars = vars; todo = []; is_open = is_open }) o (moves held o)
 end_followed P t is_open held vars None e = (refl, refl)
-end_followed P t is_open held vars (Some i) e = at_code P t is_open held _ (Some (Return (Number (pos 0)))) _ (ap Some e) (refl, refl)
+end_followed P t is_open held vars (Some i) e = at_code P t is_open held (record { vars = vars; todo = []; is_open = is_open }) (Some (Return (Number (pos 0)))) _ (ap Some e) (refl, refl)
 
 pub followed : (P : tree.Program) (t : TaskCode) (is_open : Bool) (held : Held) (vars : Variables) (todo : List tree.Stmt) (place : ℕ) → Holds t.names vars held.slots → held.rooms ≡ rooms_by t.names → Does (where_of P t) t.instructions place todo
     → Followed P t is_open held (record { vars = vars; todo = todo; is_open = is_open }) (slice_get t.instructions place) (moves held (slice_get t.instructions place))
 followed P t is_open held vars [] place h rooms does = end_followed P t is_open held vars (slice_get t.instructions place) does
 followed P t is_open held vars (stmt ∷ rest) place h rooms (next, first, does) = stmt_followed P t is_open held vars stmt rest place next h rooms first does
+
+-- ---- an element is set
+
+many_count : (a b : ℕ) → shape.Many a ≡ shape.Many b → a ≡ b
+many_count a b h = cc
+
+stored : (slots : List Slot) (n : ℕ) (s : Slot) (z : ℤ) (x : Value) (count place : ℕ) (new : List Slot) → shape_of s ≡ shape.Many count → (1 ≤ count → place ≡ index_of count z) → new ≡ slice_set slots n (with_element s place x) → store_slots slots (Some n) s z x ≡ Some new
+stored slots n (One v) z x count place new shape at is = absurd (cc)
+stored slots n (Many []) z x count place new shape at is = ap Some (sym is)
+stored slots n (Many (v ∷ vs)) z x count place new shape at is =
+    let size : suc (length vs) ≡ count = many_count (suc (length vs)) count shape in
+    let place_is : place ≡ index_of (suc (length vs)) z = at (omega (arith, size)) ∙ ap (λ m. index_of m z) (sym size) in
+    ap Some (sym (is ∙ ap (λ p. slice_set slots n (Many (slice_set (v ∷ vs) p x))) place_is))
+
+pub many_is_stored : (slots : List Slot) (n : ℕ) (z : ℤ) (x : Value) (count place : ℕ) (new : List Slot) → shape_of (slot_in_place slots n) ≡ shape.Many count → count < 9223372036854775808 → (1 ≤ count → count < 9223372036854775808 → place ≡ index_of count z) → new ≡ slice_set slots n (with_element (slot_in_place slots n) place x)
+    → store_slots slots (Some n) (slot_in_place slots n) z x ≡ Some new
+many_is_stored slots n z x count place new shape small at is = stored slots n (slot_in_place slots n) z x count place new shape (λ some. at some small) is

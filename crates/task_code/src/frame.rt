@@ -1,12 +1,12 @@
 //! The variables of a running task, by number: one flat list of values.
-ghost use Rattle.std.specs.Prelude.{◌≡◌, ◌≤◌, ◌<◌, [], ◌∷◌, ◌++◌, length, map, max, min, replicate, slice_get, slice_index, slice_index_or, ℕ, List, slice_set, IfOk, OnOk, MatchOption, None, Some, take, drop, ◌+◌};
+ghost use Rattle.std.specs.Prelude.{◌^◌, ◌≡◌, ◌≤◌, ◌<◌, [], ◌∷◌, ◌++◌, length, map, max, min, replicate, slice_get, slice_index, slice_index_or, ℕ, List, slice_set, IfOk, OnOk, MatchOption, None, Some, take, drop, ◌+◌};
 ghost use Rattle.fut_base.specs.declared.record.Value.TheVariants.{Int};
 ghost use Rattle.fut_base.specs.declared.record.Value.{Value as Carried};
 ghost use Rattle.task_machine.specs.Variables.{One, Many, Slot, value_of, refilled, values_of};
 ghost use Rattle.task_machine.specs.State.{element_of};
 ghost use Rattle.task_code.specs.declared.names.Name.{Name as Named};
 ghost use Rattle.task_code.specs.declared.frame.Shape.TheVariants as shape;
-ghost use Rattle.task_code.specs.Frames.{shape_of, slot_in_place, with_element, elements_of, zero_slot, zero_value};
+ghost use Rattle.task_code.specs.Frames.{shape_of, shape_size, slot_in_place, with_element, elements_of, zero_slot, zero_value};
 
 use crate::names::Name;
 use fut_base::list::NoMemory;
@@ -126,7 +126,8 @@ impl Frame {
 
     /// What a variable is now, one value or an array, and of how many.
     pub fn shape(&self, variable: u32) -> Shape
-        ensures { result ≡ shape_of (slot_in_place self.now.slots variable) }
+        ensures is { result ≡ shape_of (slot_in_place self.now.slots variable) }
+        ensures small { shape_size result < 2 ^ 63 }
     {
         match self.elements(variable) {
             Some(elements) => Shape::Many(elements.len()),

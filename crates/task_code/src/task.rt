@@ -1,23 +1,6 @@
 //! Tasks.
-ghost use Rattle.std.specs.Prelude.{◌≡◌, ℕ, ◌+◌, ◌<◌, ◌≤◌, ◌^◌, Bool, false, List, [], ◌∷◌, ◌++◌, slice_get, IfOk, OnOk, OnErr, MatchOption, None, Some};
-ghost use Rattle.fut_base.specs.declared.record.Value.{Value as Carried};
-ghost use Rattle.fut_base.specs.Events.{action_of};
-ghost use Rattle.fut_syntax.specs.Trees as tree;
-ghost use Rattle.task_machine.specs.State.{TaskState, Wish as Wanted, ToSpawn, ToCreate, start_state, wish_of, effect_of, Answers, local_step};
-ghost use Rattle.task_machine.specs.Runs.{StandsAt};
-ghost use Rattle.task_types.specs.Typed.{ArgsFit, ActionFits, any_future};
-ghost use Rattle.task_code.specs.Flat.{IsCodeOf};
-ghost use Rattle.task_code.specs.Tasks.{IsTaskOf, IsSomeTask, IsStill, Passes, Wishes, Turned, Told, code_of, spot_after, slots_after, instruction_of};
 
-use crate::code::Code;
-use crate::frame::Frame;
-use crate::starting::frame_of;
-use crate::steps::{ending, passed, step, take, wish};
-use fut_base::list::NoMemory;
-use fut_base::record::{Act, Args, Entry, Value};
-use std::alloc::Global;
-use std::marker::Model;
-use task_machine::trace::Trace;
+use fut_base::record::Value;
 
 /// What a task wishes to do next.
 #[derive(Clone, Copy, Debug, PartialEq, Eq)]
@@ -35,4 +18,14 @@ pub enum Wish {
     End { value: Value },
     /// It made as many local steps in a row as it may.
     Long,
+}
+
+/// Where a task stands: the place of its next instruction, whether it has spawned a child since its last sync, whether it has
+/// ended, and how many local steps it has made since its last entry.
+#[derive(Clone, Copy, Debug)]
+pub struct Spot {
+    pub place: u32,
+    pub is_open: bool,
+    pub ended: bool,
+    pub steps: u32,
 }
