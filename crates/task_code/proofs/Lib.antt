@@ -4,4 +4,5 @@ pub mod Growing
 pub mod Laying
 pub mod Meaning
 pub mod Simulating
+pub mod Tasking
 pub mod Whole

@@ -34,7 +34,7 @@ use Rattle.task_code.specs.Arrays.{cell_for}
 use Rattle.task_code.specs.Frames.{Held, slot_in_place, slot_for}
 use Rattle.task_code.specs.Names.{Holds, rooms_by}
 use Rattle.task_code.specs.Terms.{number_by, value_by, values_by}
-use Rattle.task_code.specs.Flat.{Place, Compiled, DoesStmt}
+use Rattle.task_code.specs.Flat.{Place, Compiled, IsCodeOf, DoesStmt}
 
 -- ---- what an instruction does
 
@@ -219,3 +219,44 @@ Wishes P limit s wish.Sync = (t : TaskState) × StandsWithin limit s t × (wish_
 Wishes P limit s (wish.Get future) = (t : TaskState) × StandsWithin limit s t × (wish_of P t ≡ state.ToGet future)
 Wishes P limit s (wish.End value) = (t : TaskState) × StandsWithin limit s t × (wish_of P t ≡ state.ToEnd value)
 Wishes P limit s wish.Long = GoesOn limit s
+
+-- ---- what the calls of a task say
+
+-- it is a task of some well-typed program
+abbrev pub IsSomeTask : Compiled → TaskNow → Type 0
+IsSomeTask code task = (P : tree.Program) × (args : List Value) × (s : TaskState) × IsCodeOf P code × IsTaskOf P code args task s
+
+-- the instruction at which a task stands
+abbrev pub instruction_of : Compiled → TaskNow → Option Instruction
+instruction_of code task = slice_get (code_of code.tasks task.which).instructions task.spot.place
+
+-- a task stands at an event
+abbrev pub IsStill : Compiled → TaskNow → Type 0
+IsStill code task = moves task.held (instruction_of code task) ≡ None
+
+-- a task has made one local step
+pub record Turned (code : Compiled) (old new : TaskNow) : Type 0 where
+  pub number : new.number ≡ old.number
+  pub which : new.which ≡ old.which
+  pub trace : new.trace ≡ old.trace
+  pub is_open : new.spot.is_open ≡ old.spot.is_open
+  pub ended : new.spot.ended ≡ old.spot.ended
+  pub steps : new.spot.steps ≡ old.spot.steps + 1
+  pub moves : moves old.held (instruction_of code old) ≡ Some (record { next = new.spot.place; slots = new.held.slots })
+  pub rooms : new.held.rooms ≡ old.held.rooms
+
+-- a task stands at an event and tells its wish
+pub record Told (code : Compiled) (task : TaskNow) (w : declared.Wish) : Type 0 where
+  pub still : IsStill code task
+  pub wish : IsTold w (wished code.arrays task.held.slots task.spot.is_open (instruction_of code task))
+
+-- every wish but that of too many steps is that of an event at which the task stands
+abbrev pub StopsAt : Compiled → TaskNow → declared.Wish → Type 0
+StopsAt code task wish.Long = Unit {0}
+StopsAt code task (wish.Read _) = IsStill code task
+StopsAt code task (wish.Write _ _) = IsStill code task
+StopsAt code task (wish.Spawn _) = IsStill code task
+StopsAt code task (wish.Create _) = IsStill code task
+StopsAt code task wish.Sync = IsStill code task
+StopsAt code task (wish.Get _) = IsStill code task
+StopsAt code task (wish.End _) = IsStill code task

@@ -8,6 +8,7 @@ pub mod frame;
 pub mod instruction;
 pub mod names;
 pub mod scope;
+mod starting;
 mod steps;
 pub mod task;
 pub mod term;
