@@ -1,3 +1,4 @@
+pub mod Beginning
 pub mod Evaluating
 pub mod Feeding
 pub mod Growing

@@ -48,11 +48,11 @@ found_at (d ∷ ds) k n w h =
     h
 
 -- a name that was found has a variable
-below_names : (names : List Name) (n : ℕ) (w : List ℕ) → find_name names w ≡ Some n → n < length names
+pub below_names : (names : List Name) (n : ℕ) (w : List ℕ) → find_name names w ≡ Some n → n < length names
 below_names names n w h = let r = found_at names 0 n w h in omega (arith, r.is, slice_get_within names r.index r.name r.there)
 
 -- names of one variable are one
-one_word : (names : List Name) (m n : ℕ) (u w : List ℕ) → find_name names u ≡ Some m → find_name names w ≡ Some n → m ≡ n → w ≡ u
+pub one_word : (names : List Name) (m n : ℕ) (u w : List ℕ) → find_name names u ≡ Some m → find_name names w ≡ Some n → m ≡ n → w ≡ u
 one_word names m n u w a b same =
     let x = found_at names 0 m u a in
     let y = found_at names 0 n w b in
@@ -60,7 +60,7 @@ one_word names m n u w a b same =
     let name : x.name ≡ y.name = some_one x.name y.name (sym x.there ∙ ap (slice_get names) index ∙ y.there) in
     sym y.word ∙ ap (λ (d : Name). d.word) (sym name) ∙ x.word
 
-unset : (slots : List Slot) (n : ℕ) (x : Slot) (o : Option ℕ) → ((m : ℕ) → o ≡ Some m → m ≡ n → ⊥) → slot_for slots o ≡ slot_for (slice_set slots n x) o
+pub unset : (slots : List Slot) (n : ℕ) (x : Slot) (o : Option ℕ) → ((m : ℕ) → o ≡ Some m → m ≡ n → ⊥) → slot_for slots o ≡ slot_for (slice_set slots n x) o
 unset slots n x None h = refl
 unset slots n x (Some m) h = sym (get_or-set_other slots n m x zero_slot (λ e. h m refl e))
 

@@ -1,7 +1,7 @@
 -- Tasks of flat code are in the states of the definition.
 use Rattle.std.proofs.Common.{◌≡◌, ℕ, zero, suc, ◌+◌, ◌<◌, ◌≤◌, Bool, true, false, List, [], ◌∷◌, ◌++◌, refl, sym, ap, ◌∙◌, subst, arith}
 use Rattle.std.specs.Prelude.{Option, Some, None, slice_get}
-use Rattle.std.proofs.lemmas.List.{map-append}
+use Rattle.std.proofs.lemmas.List.{map-append, append-nil}
 use Rattle.fut_base.specs.declared.record.Value.{Value}
 use Rattle.fut_base.specs.declared.record.Entry.{Entry}
 use Rattle.fut_base.specs.declared.event.Event.{Event}
@@ -10,19 +10,25 @@ use Rattle.fut_base.specs.declared.event.Action.TheVariants.{Reads, Writes, Spaw
 use Rattle.fut_base.specs.Dag.{ends}
 use Rattle.fut_base.specs.Events.{event_of, action_of}
 use Rattle.fut_syntax.specs.Trees as tree
-use Rattle.task_machine.specs.Texts.{cell_arrays}
-use Rattle.task_machine.specs.State.{TaskState, NoWish, ToSpawn, ToCreate, local_step, wish_of, effect_of, start_state, Answers}
+use Rattle.fut_syntax.specs.Small.{items_of}
+use Rattle.task_machine.specs.Variables.{Slot, bound}
+use Rattle.task_machine.specs.Texts.{TaskText, cell_arrays, tasks_of, task_at, stmts_of}
+use Rattle.task_machine.specs.State.{TaskState, started, NoWish, ToSpawn, ToCreate, local_step, wish_of, effect_of, start_state, Answers}
 use Rattle.task_machine.specs.Runs.{Steps, StandsWithin, GoesOn, StandsAt, Follows, IsStateAfter}
-use Rattle.task_types.specs.Typed.{IsTypedState, ActionFits, any_future}
+use Rattle.task_types.specs.Typed.{IsTypedState, ArgsFit, ActionFits, any_future}
+use Rattle.task_types.proofs.Calling.{start_typed}
+use Rattle.task_types.proofs.Wishing.{effect_stays}
 use Rattle.task_types.proofs.Wishes.{typed_has_wish}
-use Rattle.task_types.proofs.Stepping.{steps_stay_typed}
+use Rattle.task_types.proofs.Stepping.{steps_stay}
 use Rattle.task_code.specs.declared.code.TaskCode.{TaskCode}
 use Rattle.task_code.specs.declared.instruction.Instruction.{Instruction}
+use Rattle.task_code.specs.declared.task.Spot.{Spot}
+use Rattle.task_code.specs.Names.{Holds, rooms_by}
 use Rattle.task_code.specs.declared.task.Wish.TheVariants as wish
 use Rattle.task_code.specs.declared.task.Wish as declared
-use Rattle.task_code.specs.Flat.{Compiled, IsCodeOf}
-use Rattle.task_code.specs.Tasks.{TaskNow, Moved, moves, wished, code_of, where_of, IsIn, IsTaskOf, IsTold, Turned, Told, IsStill, StopsAt, Wishes, instruction_of, trace_events, slots_after, spot_after, ended_after}
-use Rattle.task_code.proofs.Simulating.{Followed, followed}
+use Rattle.task_code.specs.Flat.{Compiled, AreGiven, AreCodesOf, IsCodeOf, code_of}
+use Rattle.task_code.specs.Tasks.{TaskNow, Moved, moves, wished, where_of, Does, IsEnd, IsIn, IsTaskOf, IsTold, Turned, Told, IsStill, StopsAt, Wishes, instruction_of, trace_events, slots_after, spot_after, ended_after}
+use Rattle.task_code.proofs.Simulating.{Followed, followed, does_append}
 use Rattle.task_code.proofs.Feeding.{fed_in}
 
 -- ---- steps
@@ -95,7 +101,7 @@ pub never_stuck : (P : tree.Program) (code : Compiled) (args : List Value) (task
     → wished code.arrays task.held.slots task.spot.is_open (instruction_of code task) ≡ NoWish → ⊥
 never_stuck P code args task s is running x still none =
     let a = stands P code args task s is running x still in
-    typed_has_wish any_future P task.which a.at is.typed (steps_stay_typed any_future P task.which task.spot.steps s a.at is.typed (x.typed running) a.steps) a.stop (a.wish ∙ none)
+    typed_has_wish any_future P task.which a.at is.typed (steps_stay any_future P task.which task.spot.steps s a.at is.typed (x.typed running) a.steps) a.stop (a.wish ∙ none)
 
 -- ---- wishes
 
@@ -130,3 +136,88 @@ stops_at code task wish.Long t = tt
 -- the event at which a task stands is the one of its instruction
 pub stands_there : (P : tree.Program) (code : Compiled) (args : List Value) (task : TaskNow) (s t : TaskState) → (a : Stands P code task s) → StandsAt s t → a.at ≡ t
 stands_there P code args task s t a (limit, most, (n, below, steps, stop)) = same_stop task.spot.steps n s a.at t a.steps a.stop steps stop
+
+-- ---- the beginning
+
+starts_at : (P : tree.Program) (texts : List TaskText) (codes : List TaskCode) (n : ℕ) (args : List Value) (slots : List Slot) → AreCodesOf (items_of P) texts codes
+    → ((ps : List tree.Param) → AreGiven (code_of codes n).names 0 ps (code_of codes n).params → Holds (code_of codes n).names (bound ps args) slots)
+    → Holds (code_of codes n).names (started (slice_get texts n) args).vars slots × Does (where_of P (code_of codes n)) (code_of codes n).instructions (code_of codes n).entry (started (slice_get texts n) args).todo
+starts_at P [] [] n args slots d h = (h [] tt, tt)
+starts_at P [] (c ∷ codes) n args slots d h = absurd d
+starts_at P (t ∷ texts) [] n args slots d h = absurd d
+starts_at P (t ∷ texts) (c ∷ codes) zero args slots d h =
+    (
+      h t.params d.0.given,
+      subst (λ todo. Does (where_of P c) c.instructions c.entry todo) (append-nil (stmts_of t.body)) (does_append (where_of P c) c.instructions t.body 0 c.entry [] d.0.does (subst IsEnd (sym d.0.ends) refl)),
+    )
+starts_at P (t ∷ texts) (c ∷ codes) (suc n) args slots d h = starts_at P texts codes n args slots d.1 h
+
+closed : (o : Option TaskText) (args : List Value) → false ≡ (started o args).is_open
+closed None args = refl
+closed (Some t) args = refl
+
+pub begins : (P : tree.Program) (code : Compiled) (args : List Value) (task : TaskNow) → IsCodeOf P code → ArgsFit any_future P task.which args → task.spot ≡ record { place = (code_of code.tasks task.which).entry; is_open = false; ended = false; steps = 0 } → task.trace.items ≡ []
+    → task.held.rooms ≡ rooms_by (code_of code.tasks task.which).names → ((ps : List tree.Param) → AreGiven (code_of code.tasks task.which).names 0 ps (code_of code.tasks task.which).params → Holds (code_of code.tasks task.which).names (bound ps args) task.held.slots)
+    → IsTaskOf P code args task (start_state P task.which args)
+begins P code args task is fit spot trace rooms holds =
+    let s = start_state P task.which args in
+    let tc = code_of code.tasks task.which in
+    let d = starts_at P (tasks_of P) code.tasks task.which args task.held.slots is.tasks holds in
+    record {
+      state = subst (λ xs. IsStateAfter P task.which args (trace_events xs) s) (sym trace) refl;
+      typed = λ e. start_typed any_future P task.which args is.typed fit;
+      place = λ e. (
+          s,
+          subst (λ (q : Spot). Steps q.steps s s) (sym spot) refl,
+          record {
+            vars = d.0;
+            rooms = rooms;
+            is_open = ap (λ (q : Spot). q.is_open) spot ∙ closed (task_at P task.which) args;
+            todo = subst (λ (q : Spot). Does (where_of P tc) tc.instructions q.place s.todo) (sym spot) d.1;
+          },
+        );
+    }
+
+-- ---- an entry
+
+follows_more : (P : tree.Program) (s : TaskState) (trace : List Event) (t stop : TaskState) (e : Event) → Follows P s trace t → StandsAt t stop → Answers (wish_of P stop) e.action → Follows P s (trace ++ e ∷ []) (effect_of stop e.action)
+follows_more P s [] t stop e f at answers = (stop, subst (λ q. StandsAt q stop) (sym f) at, answers, refl)
+follows_more P s (x ∷ trace) t stop e (first, there, answered, f) at answers = (first, there, answered, follows_more P (effect_of first x.action) trace t stop e f at answers)
+
+not_ended : (ended : Bool) (a : Action) → ended ≡ false → ended_after ended a ≡ false → ends a ≡ false
+not_ended ended (Reads c v) h e = refl
+not_ended ended (Writes c v) h e = refl
+not_ended ended (Spawns n c k t args) h e = refl
+not_ended ended (Creates n c k t args) h e = refl
+not_ended ended (Syncs t) h e = refl
+not_ended ended (Gets f v t) h e = refl
+not_ended ended (Ends v) h e = absurd (cc)
+
+pub fed : (P : tree.Program) (code : Compiled) (args : List Value) (old new : TaskNow) (s t : TaskState) (ticket : ℕ) (entry : Entry) → new.which ≡ old.which → new.spot ≡ spot_after old.spot (instruction_of code old) (action_of entry.act)
+    → new.held.slots ≡ slots_after old.held (instruction_of code old) (action_of entry.act) → new.held.rooms ≡ old.held.rooms → new.trace.items ≡ old.trace.items ++ (ticket, entry) ∷ []
+    → IsCodeOf P code → IsStill code old → IsTaskOf P code args old s → old.spot.ended ≡ false → StandsAt s t → Answers (wish_of P t) (action_of entry.act) → ActionFits any_future P old.which t (action_of entry.act)
+    → IsTaskOf P code args new (effect_of t (action_of entry.act))
+fed P code args old new s t ticket entry which spot slots rooms trace is still x running at answers fit =
+    let a = action_of entry.act in
+    let st = stands P code args old s is running x still in
+    let same : st.at ≡ t = stands_there P code args old s t st at in
+    let stop : local_step t ≡ None = subst (λ q. local_step q ≡ None) same st.stop in
+    let inside : IsIn P (code_of code.tasks old.which) old.spot old.held t = subst (λ q. IsIn P (code_of code.tasks old.which) old.spot old.held q) same st.inside in
+    let kept : IsTypedState any_future P old.which t = subst (λ q. IsTypedState any_future P old.which q) same (steps_stay any_future P old.which old.spot.steps s st.at is.typed (x.typed running) st.steps) in
+    let events : trace_events new.trace.items ≡ trace_events old.trace.items ++ event_of entry ∷ [] = ap trace_events trace ∙ map-append (λ (p : ℕ × Entry). event_of p.1) old.trace.items ((ticket, entry) ∷ []) in
+    record {
+      state =
+          subst (λ w. IsStateAfter P w args (trace_events new.trace.items) (effect_of t a)) (sym which)
+          (subst (λ es. IsStateAfter P old.which args es (effect_of t a)) (sym events) (follows_more P (start_state P old.which args) (trace_events old.trace.items) s t (event_of entry) x.state at answers));
+      typed = λ e. subst (λ w. IsTypedState any_future P w (effect_of t a)) (sym which)
+          (effect_stays any_future P old.which t a is.typed kept stop answers (not_ended old.spot.ended a running (subst (λ (q : Spot). q.ended ≡ false) spot e)) fit);
+      place = λ e. (
+          let y = fed_in P (code_of code.tasks old.which) old.spot old.held t a inside answers (subst (λ (q : Spot). q.ended ≡ false) spot e) in
+          let z = subst (λ (q : Spot). IsIn P (code_of code.tasks old.which) q (record { slots = slots_after old.held (instruction_of code old) a; rooms = old.held.rooms }) (effect_of t a)) (sym spot) y in
+          (
+            effect_of t a,
+            subst (λ (q : Spot). Steps q.steps (effect_of t a) (effect_of t a)) (sym spot) refl,
+            subst (λ w. IsIn P (code_of code.tasks w) new.spot new.held (effect_of t a)) (sym which)
+            (record { vars = subst (Holds (code_of code.tasks old.which).names (effect_of t a).vars) (sym slots) z.vars; rooms = rooms ∙ z.rooms; is_open = z.is_open; todo = z.todo }),
+          ));
+    }

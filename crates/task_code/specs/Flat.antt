@@ -139,3 +139,14 @@ pub record IsCodeOf (P : tree.Program) (code : Compiled) : Type 0 where
   pub tasks : AreCodesOf (items_of P) (tasks_of P) code.tasks
   pub main : code.main ≡ main_of P
   pub cells : code.cells ≡ cell_count P
+
+-- the code of a task of the text; of one that is none, nothing
+abbrev pub code_or_none : Option TaskCode → TaskCode
+code_or_none None = record { names = []; params = []; entry = 0; instructions = [] }
+code_or_none (Some t) = t
+
+abbrev pub code_of : List TaskCode → ℕ → TaskCode
+code_of tasks which = code_or_none (slice_get tasks which)
+
+abbrev pub instructions_at : List TaskCode → ℕ → List Instruction
+instructions_at tasks which = (code_of tasks which).instructions

@@ -34,7 +34,7 @@ use Rattle.task_code.specs.Arrays.{cell_for}
 use Rattle.task_code.specs.Frames.{Held, slot_in_place, slot_for}
 use Rattle.task_code.specs.Names.{Holds, rooms_by}
 use Rattle.task_code.specs.Terms.{number_by, value_by, values_by}
-use Rattle.task_code.specs.Flat.{Place, Compiled, IsCodeOf, DoesStmt}
+use Rattle.task_code.specs.Flat.{Place, Compiled, code_of, IsCodeOf, DoesStmt}
 
 -- ---- what an instruction does
 
@@ -168,14 +168,6 @@ pub record TaskNow : Type 0 where
   pub spot : Spot
   pub held : Held
   pub trace : Listed (ℕ × Entry)
-
--- the code of a task of the text; of one that is none, nothing
-abbrev pub code_or_none : Option TaskCode → TaskCode
-code_or_none None = record { names = []; params = []; entry = 0; instructions = [] }
-code_or_none (Some t) = t
-
-abbrev pub code_of : List TaskCode → ℕ → TaskCode
-code_of tasks which = code_or_none (slice_get tasks which)
 
 -- a body ends here
 abbrev pub IsEnd : Option Instruction → Type 0

@@ -7,7 +7,7 @@ ghost use Rattle.fut_syntax.specs.Views.{type_tree, params_tree, block_tree, ite
 ghost use Rattle.task_machine.specs.Texts.{CellArray as Cells, arrays_from, count_cells, tasks_from};
 ghost use Rattle.task_machine.specs.Variables.{size_of};
 ghost use Rattle.task_code.specs.Arrays.{IsCellOf};
-ghost use Rattle.task_code.specs.Flat.{AreGiven, AreCodesOf, IsCodeOf, IsCodeOfTask};
+ghost use Rattle.task_code.specs.Flat.{AreGiven, AreCodesOf, IsCodeOf, IsCodeOfTask, instructions_at};
 
 use crate::cells::{CellArray, arrays_of, cells_of};
 use crate::compile::{add_block, fill_for, push, task_number};
@@ -128,6 +128,16 @@ impl Code {
         ensures { option_copied result ≡ slice_get self.now.tasks which }
     {
         self.tasks.get(which as usize)
+    }
+
+    /// The instruction at a place of a task.
+    pub fn instruction(&self, which: u32, place: u32) -> Option<&Instruction>
+        ensures { option_copied result ≡ slice_get (instructions_at self.now.tasks which) place }
+    {
+        match self.tasks.get(which as usize) {
+            Some(task) => task.instructions.get(place as usize),
+            None => None,
+        }
     }
 
     /// The arrays of cells.
