@@ -1,8 +1,9 @@
 -- Tasks of flat code are in the states of the definition.
-use Rattle.std.proofs.Common.{◌≡◌, ℕ, zero, suc, ◌+◌, ◌<◌, ◌≤◌, Bool, true, false, List, [], ◌∷◌, ◌++◌, refl, sym, ap, ◌∙◌, subst, arith}
-use Rattle.std.specs.Prelude.{Option, Some, None, slice_get}
+use Rattle.std.proofs.Common.{◌≡◌, ℕ, zero, suc, ◌+◌, ◌<◌, ◌≤◌, ◌⊎◌, inl, inr, Bool, true, false, List, [], ◌∷◌, ◌++◌, refl, sym, ap, ◌∙◌, subst, arith}
+use Rattle.std.specs.Prelude.{ℤ, Option, Some, None, slice_get}
 use Rattle.std.proofs.lemmas.List.{map-append, append-nil}
 use Rattle.fut_base.specs.declared.record.Value.{Value}
+use Rattle.fut_base.specs.declared.record.Value.TheVariants.{Int, Fut}
 use Rattle.fut_base.specs.declared.record.Entry.{Entry}
 use Rattle.fut_base.specs.declared.event.Event.{Event}
 use Rattle.fut_base.specs.declared.event.Action.{Action}
@@ -12,8 +13,8 @@ use Rattle.fut_base.specs.Events.{event_of, action_of}
 use Rattle.fut_syntax.specs.Trees as tree
 use Rattle.fut_syntax.specs.Small.{items_of}
 use Rattle.task_machine.specs.Variables.{Slot, bound}
-use Rattle.task_machine.specs.Texts.{TaskText, cell_arrays, tasks_of, task_at, stmts_of}
-use Rattle.task_machine.specs.State.{TaskState, started, NoWish, ToSpawn, ToCreate, local_step, wish_of, effect_of, start_state, Answers}
+use Rattle.task_machine.specs.Texts.{CellArray, TaskText, cell_arrays, tasks_of, task_at, stmts_of}
+use Rattle.task_machine.specs.State.{TaskState, Wish, started, read_of, write_of, get_of, end_of, NoWish, ToSpawn, ToCreate, local_step, wish_of, effect_of, start_state, Answers}
 use Rattle.task_machine.specs.Runs.{Steps, StandsWithin, GoesOn, StandsAt, Follows, IsStateAfter}
 use Rattle.task_types.specs.Typed.{IsTypedState, ArgsFit, ActionFits, any_future}
 use Rattle.task_types.proofs.Calling.{start_typed}
@@ -22,12 +23,15 @@ use Rattle.task_types.proofs.Wishes.{typed_has_wish}
 use Rattle.task_types.proofs.Stepping.{steps_stay}
 use Rattle.task_code.specs.declared.code.TaskCode.{TaskCode}
 use Rattle.task_code.specs.declared.instruction.Instruction.{Instruction}
+use Rattle.task_code.specs.declared.instruction.Instruction.TheVariants.{Set, Store, Branch, Spawn, Sync, Return}
+use Rattle.task_code.specs.declared.instruction.Source.{Source}
+use Rattle.task_code.specs.declared.instruction.Source.TheVariants as source
 use Rattle.task_code.specs.declared.task.Spot.{Spot}
 use Rattle.task_code.specs.Names.{Holds, rooms_by}
 use Rattle.task_code.specs.declared.task.Wish.TheVariants as wish
 use Rattle.task_code.specs.declared.task.Wish as declared
 use Rattle.task_code.specs.Flat.{Compiled, AreGiven, AreCodesOf, IsCodeOf, code_of}
-use Rattle.task_code.specs.Tasks.{TaskNow, Moved, moves, wished, where_of, Does, IsEnd, IsIn, IsTaskOf, IsTold, Turned, Told, IsStill, StopsAt, Wishes, instruction_of, trace_events, slots_after, spot_after, ended_after}
+use Rattle.task_code.specs.Tasks.{TaskNow, Moved, moves, wished, wished_source, passed_by, passed_by_source, where_of, Does, IsEnd, IsIn, IsTaskOf, IsTold, Turned, Told, IsStill, StopsAt, Wishes, instruction_of, trace_events, slots_after, spot_after, ended_after}
 use Rattle.task_code.proofs.Simulating.{Followed, followed, does_append}
 use Rattle.task_code.proofs.Feeding.{fed_in}
 
@@ -221,3 +225,60 @@ fed P code args old new s t ticket entry which spot slots rooms trace is still x
             (record { vars = subst (Holds (code_of code.tasks old.which).names (effect_of t a).vars) (sym slots) z.vars; rooms = rooms ∙ z.rooms; is_open = z.is_open; todo = z.todo }),
           ));
     }
+
+-- ---- arguments
+
+-- a wish to begin a task with these arguments
+abbrev Begins : Wish → ℕ → List Value → Type 0
+Begins w n args = (w ≡ ToSpawn n args) ⊎ (w ≡ ToCreate n args)
+
+end_begins_not : (b : Bool) (v : Value) (n : ℕ) (args : List Value) → Begins (end_of b v) n args → ⊥
+end_begins_not true v n args (inl h) = cc
+end_begins_not true v n args (inr h) = cc
+end_begins_not false v n args (inl h) = cc
+end_begins_not false v n args (inr h) = cc
+
+read_begins_not : (o : Option ℕ) (n : ℕ) (args : List Value) → Begins (read_of o) n args → ⊥
+read_begins_not None n args (inl h) = cc
+read_begins_not None n args (inr h) = cc
+read_begins_not (Some c) n args (inl h) = cc
+read_begins_not (Some c) n args (inr h) = cc
+
+write_begins_not : (o : Option ℕ) (z : ℤ) (n : ℕ) (args : List Value) → Begins (write_of o z) n args → ⊥
+write_begins_not None z n args (inl h) = cc
+write_begins_not None z n args (inr h) = cc
+write_begins_not (Some c) z n args (inl h) = cc
+write_begins_not (Some c) z n args (inr h) = cc
+
+get_begins_not : (v : Value) (n : ℕ) (args : List Value) → Begins (get_of v) n args → ⊥
+get_begins_not (Int z) n args (inl h) = cc
+get_begins_not (Int z) n args (inr h) = cc
+get_begins_not (Fut f) n args (inl h) = cc
+get_begins_not (Fut f) n args (inr h) = cc
+
+source_begins : (arrays : List CellArray) (slots : List Slot) (x : Source) (n : ℕ) (args : List Value) → Begins (wished_source arrays slots x) n args → passed_by_source slots x ≡ args
+source_begins arrays slots (source.Value t) n args (inl h) = absurd (cc)
+source_begins arrays slots (source.Value t) n args (inr h) = absurd (cc)
+source_begins arrays slots (source.Element v a t) n args h = absurd (read_begins_not _ n args h)
+source_begins arrays slots (source.Get v) n args h = absurd (get_begins_not _ n args h)
+source_begins arrays slots (source.Create m ts) n args (inl h) = absurd (cc)
+source_begins arrays slots (source.Create m ts) n args (inr h) = cc
+
+begins_with : (arrays : List CellArray) (slots : List Slot) (b : Bool) (o : Option Instruction) (n : ℕ) (args : List Value) → Begins (wished arrays slots b o) n args → passed_by slots o ≡ args
+begins_with arrays slots b None n args h = absurd (end_begins_not b _ n args h)
+begins_with arrays slots b (Some (Set t s next)) n args h = source_begins arrays slots s n args h
+begins_with arrays slots b (Some (Store v a e g next)) n args h = absurd (write_begins_not _ _ n args h)
+begins_with arrays slots b (Some (Branch t here otherwise)) n args (inl h) = absurd (cc)
+begins_with arrays slots b (Some (Branch t here otherwise)) n args (inr h) = absurd (cc)
+begins_with arrays slots b (Some (Spawn m ts next)) n args (inl h) = cc
+begins_with arrays slots b (Some (Spawn m ts next)) n args (inr h) = absurd (cc)
+begins_with arrays slots b (Some (Sync next)) n args (inl h) = absurd (cc)
+begins_with arrays slots b (Some (Sync next)) n args (inr h) = absurd (cc)
+begins_with arrays slots b (Some (Return t)) n args h = absurd (end_begins_not b _ n args h)
+
+pub passes : (P : tree.Program) (code : Compiled) (given : List Value) (task : TaskNow) (s t : TaskState) (which : ℕ) (args : List Value) → IsCodeOf P code → task.spot.ended ≡ false → IsTaskOf P code given task s → IsStill code task → StandsAt s t
+    → (wish_of P t ≡ ToSpawn which args) ⊎ (wish_of P t ≡ ToCreate which args) → passed_by task.held.slots (instruction_of code task) ≡ args
+passes P code given task s t which args is running x still at h =
+    let a = stands P code given task s is running x still in
+    let same : wish_of P t ≡ wished code.arrays task.held.slots task.spot.is_open (instruction_of code task) = ap (wish_of P) (sym (stands_there P code given task s t a at)) ∙ a.wish in
+    begins_with code.arrays task.held.slots task.spot.is_open (instruction_of code task) which args (subst (λ w. Begins w which args) same h)

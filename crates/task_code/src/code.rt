@@ -7,7 +7,7 @@ ghost use Rattle.fut_syntax.specs.Views.{type_tree, params_tree, block_tree, ite
 ghost use Rattle.task_machine.specs.Texts.{CellArray as Cells, arrays_from, count_cells, tasks_from};
 ghost use Rattle.task_machine.specs.Variables.{size_of};
 ghost use Rattle.task_code.specs.Arrays.{IsCellOf};
-ghost use Rattle.task_code.specs.Flat.{AreGiven, AreCodesOf, IsCodeOf, IsCodeOfTask, instructions_at};
+ghost use Rattle.task_code.specs.Flat.{AreGiven, AreCodesOf, IsCodeOf, IsCodeOfTask, instructions_at, code_of};
 
 use crate::cells::{CellArray, arrays_of, cells_of};
 use crate::compile::{add_block, fill_for, push, task_number};
@@ -128,6 +128,16 @@ impl Code {
         ensures { option_copied result ≡ slice_get self.now.tasks which }
     {
         self.tasks.get(which as usize)
+    }
+
+    /// The place where the task of the text at a place begins.
+    pub fn entry(&self, which: u32) -> u32
+        ensures { result ≡ (code_of self.now.tasks which).entry }
+    {
+        match self.tasks.get(which as usize) {
+            Some(task) => task.entry,
+            None => 0,
+        }
     }
 
     /// The instruction at a place of a task.

@@ -5,10 +5,10 @@ ghost use Rattle.fut_syntax.specs.Views.{type_tree};
 ghost use Rattle.task_machine.specs.Variables.{bound};
 ghost use Rattle.task_code.specs.Frames.{zero_value};
 ghost use Rattle.task_code.specs.Names.{Holds, rooms_by};
-ghost use Rattle.task_code.specs.Flat.{AreGiven};
+ghost use Rattle.task_code.specs.Flat.{AreGiven, code_of};
 ghost use Rattle.task_code.specs.Starting.{taken_in};
 
-use crate::code::{Given, TaskCode};
+use crate::code::{Code, Given, TaskCode};
 use crate::frame::Frame;
 use fut_base::list::NoMemory;
 use fut_base::record::Value;
@@ -27,6 +27,22 @@ pub fn frame_of(alloc: Global, task: &TaskCode, args: &[Value]) -> Result<Frame,
         give(&mut frame, params[index], args);
     }
     Ok(frame)
+}
+
+/// The variables of the task of the text at a place, as it begins with these arguments.
+pub fn frame_at(
+    alloc: Global,
+    code: &Code,
+    which: u32,
+    args: &[Value],
+) -> Result<Frame, NoMemory>
+    ensures rooms { IfOk result (λ f. f.rooms ≡ rooms_by (code_of code.now.tasks which).names) }
+    ensures holds { IfOk result (λ f. (ps : List Parameter) → AreGiven (code_of code.now.tasks which).names 0 ps (code_of code.now.tasks which).params → Holds (code_of code.now.tasks which).names (bound ps args.now) f.slots) }
+{
+    match code.task(which) {
+        Some(task) => frame_of(alloc, task, args),
+        None => Frame::make(alloc, &[]),
+    }
 }
 
 /// Sets a parameter.

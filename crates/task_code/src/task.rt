@@ -12,7 +12,7 @@ ghost use Rattle.task_code.specs.Tasks.{IsTaskOf, IsSomeTask, IsStill, StopsAt, 
 
 use crate::code::Code;
 use crate::frame::Frame;
-use crate::starting::frame_of;
+use crate::starting::frame_at;
 use crate::steps::{ending, passed, step, take, wish};
 use fut_base::list::NoMemory;
 use fut_base::record::{Act, Args, Entry, Value};
@@ -78,15 +78,12 @@ impl Task {
         ensures begins { IfOk result (λ t. (t.number ≡ number) × (t.which ≡ which) × (t.spot.ended ≡ false) × (t.trace.items ≡ [])) }
         ensures state { IfOk result (λ t. (P : tree.Program) → IsCodeOf P code.now → ArgsFit any_future P which args.now.items → IsTaskOf P code.now args.now.items t (start_state P which args.now.items)) }
     {
-        let (frame, place) = match code.task(which) {
-            Some(task) => (frame_of(alloc, task, args.as_slice())?, task.entry),
-            None => (Frame::make(alloc, &[])?, 0),
-        };
+        let frame = frame_at(alloc, code, which, args.as_slice())?;
         Ok(Task {
             number,
             which,
             spot: Spot {
-                place,
+                place: code.entry(which),
                 is_open: false,
                 ended: false,
                 steps: 0,
@@ -171,11 +168,21 @@ impl Task {
         ensures room { self.new.trace.spare + 1 ≡ self.old.trace.spare }
         ensures state { (P : tree.Program) (args : List Carried) (s t : TaskState) → IsCodeOf P code.now → IsStill code.now self.old → IsTaskOf P code.now args self.old s → self.old.spot.ended ≡ false → StandsAt s t → Answers (wish_of P t) (action_of entry.act) → ActionFits any_future P self.old.which t (action_of entry.act) → IsTaskOf P code.now args self.new (effect_of t (action_of entry.act)) }
     {
-        if let Some(instruction) = code.instruction(self.which, self.spot.place) {
-            self.spot.place = take(&mut self.frame, instruction, self.spot.place, &entry.act);
-        }
-        self.spot = spot_behind(self.spot, &entry.act);
+        self.take_in(code, &entry.act);
         self.trace.push(ticket, entry);
+    }
+
+    /// Takes what an act gives it, and goes on behind the instruction at which it stands.
+    fn take_in(&mut self, code: &Code, act: &Act)
+        ensures task { (self.new.number ≡ self.old.number) × (self.new.which ≡ self.old.which) × (self.new.trace ≡ self.old.trace) }
+        ensures spot { self.new.spot ≡ spot_after self.old.spot (instruction_of code.now self.old) (action_of act.now) }
+        ensures slots { self.new.held.slots ≡ slots_after self.old.held (instruction_of code.now self.old) (action_of act.now) }
+        ensures rooms { self.new.held.rooms ≡ self.old.held.rooms }
+    {
+        if let Some(instruction) = code.instruction(self.which, self.spot.place) {
+            self.spot.place = take(&mut self.frame, instruction, self.spot.place, act);
+        }
+        self.spot = spot_behind(self.spot, act);
     }
 
     /// The number with which it was started.
