@@ -9,9 +9,10 @@ use Rattle.task_machine.specs.Variables.{Slot, One, Many, Variables, slot_at, si
 use Rattle.task_types.proofs.Slots.{by_bool, cond_true, cond_false, not_both, same_word, word_is}
 use Rattle.task_code.specs.declared.names.Name.{Name}
 use Rattle.task_code.specs.declared.code.Given.{Given}
+use Rattle.task_code.specs.declared.code.TaskCode.{TaskCode}
 use Rattle.task_code.specs.Frames.{slot_for, zero_slot}
 use Rattle.task_code.specs.Names.{find_name, rooms_by, Holds, HasRoom}
-use Rattle.task_code.specs.Flat.{AreGiven}
+use Rattle.task_code.specs.Flat.{AreGiven, code_or_none}
 use Rattle.task_code.specs.Starting.{taken_in, offset_of}
 use Rattle.task_code.proofs.Simulating.{below_names, one_word, unset}
 
@@ -114,3 +115,9 @@ one_given names ps xs i x old new rooms args some le read same given set h =
     subst (λ qs. Holds names (bound qs vs) new) (sym (g.there ∙ ap (λ n. p ∷ drop n ps) one))
     (subst (λ ss. Holds names ((p.name, taken p.type vs) ∷ bound (drop i ps) (drop (size_of p.type) vs)) ss) (sym (set ∙ ap (slice_set old x.variable) slot))
     (subst (λ ws. Holds names ((p.name, taken p.type vs) ∷ bound (drop i ps) ws) (slice_set old x.variable (taken p.type vs))) (sym next) (holds_front names (bound (drop i ps) (drop (offset_of i ps) args)) old p.name x.variable (taken p.type vs) h g.found)))
+
+-- a task that is none of the text has no variables
+pub none_given : (code : TaskCode) (o : Option TaskCode) (slots : List Slot) (args : List Value) → code ≡ code_or_none o → o ≡ None → slots ≡ [] → (ps : List tree.Param) → AreGiven code.names 0 ps code.params → Holds code.names (bound ps args) slots
+none_given code o slots args is none empty =
+    let bare : code ≡ code_or_none None = is ∙ ap code_or_none none in
+    subst (λ (c : TaskCode). (ps : List tree.Param) → AreGiven c.names 0 ps c.params → Holds c.names (bound ps args) slots) (sym bare) (λ ps given. begun [] ps [] slots args empty given)

@@ -10,10 +10,11 @@ use Rattle.task_machine.specs.Variables.{Variables}
 use Rattle.task_machine.specs.State.{TaskState, Wish, ToRead, ToWrite, ToSpawn, ToCreate, ToSync, ToGet, ToEnd, NoWish, set_by, write_of, spawn_of, end_of, wish_by, wish_of, first_wish, receives, after_sync, effect_of, Answers}
 use Rattle.task_code.specs.declared.code.TaskCode.{TaskCode}
 use Rattle.task_code.specs.declared.instruction.Instruction.{Instruction}
+use Rattle.task_code.specs.declared.instruction.Fill.TheVariants as fill
 use Rattle.task_code.specs.declared.task.Spot.{Spot}
 use Rattle.task_code.specs.Frames.{Held}
 use Rattle.task_code.specs.Names.{Holds, rooms_by}
-use Rattle.task_code.specs.Flat.{DoesStmt}
+use Rattle.task_code.specs.Flat.{DoesStmt, fill_of}
 use Rattle.task_code.specs.Tasks.{Does, IsEnd, IsIn, where_of, received, received_by, slots_after, place_after, open_after, ended_after, spot_after}
 use Rattle.task_code.proofs.Simulating.{holds_filled, holds_refilled}
 
@@ -65,10 +66,10 @@ received_after : (P : tree.Program) (t : TaskCode) (s : TaskState) (held : Held)
 received_after P t s held (tree.Declare w type) rest place next a v h rooms d does got wish = absurd wish
 received_after P t s held (tree.Define w type init) rest place next a v h rooms (i, there, (n, x, found, room, from, is)) does got wish =
     at_code P t held place a _ (slice_get t.instructions place) (set_by (tree.Define w type init) s.vars v) rest (there ∙ ap Some is)
-    (subst (λ o. Holds t.names (set_by (tree.Define w type init) s.vars v) (received held _ o)) (sym got) (holds_filled t.names s.vars held w n type v h rooms found room), does)
+    (subst (λ o. Holds t.names (set_by (tree.Define w type init) s.vars v) (received held (record { variable = n; fill = fill_of type }) o)) (sym got) (holds_filled t.names s.vars held w n type v h rooms found room), does)
 received_after P t s held (tree.Assign w init) rest place next a v h rooms (i, there, (n, x, found, from, is)) does got wish =
     at_code P t held place a _ (slice_get t.instructions place) (set_by (tree.Assign w init) s.vars v) rest (there ∙ ap Some is)
-    (subst (λ o. Holds t.names (set_by (tree.Assign w init) s.vars v) (received held _ o)) (sym got) (holds_refilled t.names s.vars held w n v h found), does)
+    (subst (λ o. Holds t.names (set_by (tree.Assign w init) s.vars v) (received held (record { variable = n; fill = fill.Again }) o)) (sym got) (holds_refilled t.names s.vars held w n v h found), does)
 received_after P t s held (tree.Store w e f) rest place next a v h rooms d does got wish = absurd (write_receives_not _ _ wish)
 received_after P t s held (tree.SpawnOf w es) rest place next a v h rooms d does got wish = absurd (spawn_receives_not _ _ wish)
 received_after P t s held tree.SyncAll rest place next a v h rooms d does got wish = absurd wish
@@ -82,9 +83,9 @@ passed_after : (P : tree.Program) (t : TaskCode) (s : TaskState) (held : Held) (
     → After P t held place a (slice_get t.instructions place) s.vars rest
 passed_after P t s held (tree.Declare w type) rest place next a h d does got wish = absurd wish
 passed_after P t s held (tree.Define w type init) rest place next a h (i, there, (n, x, found, room, from, is)) does got wish =
-    at_code P t held place a _ (slice_get t.instructions place) s.vars rest (there ∙ ap Some is) (subst (λ o. Holds t.names s.vars (received held _ o)) (sym got) h, does)
+    at_code P t held place a _ (slice_get t.instructions place) s.vars rest (there ∙ ap Some is) (subst (λ o. Holds t.names s.vars (received held (record { variable = n; fill = fill_of type }) o)) (sym got) h, does)
 passed_after P t s held (tree.Assign w init) rest place next a h (i, there, (n, x, found, from, is)) does got wish =
-    at_code P t held place a _ (slice_get t.instructions place) s.vars rest (there ∙ ap Some is) (subst (λ o. Holds t.names s.vars (received held _ o)) (sym got) h, does)
+    at_code P t held place a _ (slice_get t.instructions place) s.vars rest (there ∙ ap Some is) (subst (λ o. Holds t.names s.vars (received held (record { variable = n; fill = fill.Again }) o)) (sym got) h, does)
 passed_after P t s held (tree.Store w e f) rest place next a h (i, there, (x, y, m, n, is)) does got wish = at_code P t held place a _ (slice_get t.instructions place) s.vars rest (there ∙ ap Some is) (h, does)
 passed_after P t s held (tree.SpawnOf w es) rest place next a h (i, there, (n, ts, found, m, is)) does got wish = at_code P t held place a _ (slice_get t.instructions place) s.vars rest (there ∙ ap Some is) (h, does)
 passed_after P t s held tree.SyncAll rest place next a h d does got wish = absurd wish
@@ -98,9 +99,9 @@ synced_after : (P : tree.Program) (t : TaskCode) (s : TaskState) (held : Held) (
     → After P t held place a (slice_get t.instructions place) s.vars (after_sync (stmt ∷ rest))
 synced_after P t s held (tree.Declare w type) rest place next a h d does got wish = absurd wish
 synced_after P t s held (tree.Define w type init) rest place next a h (i, there, (n, x, found, room, from, is)) does got wish =
-    at_code P t held place a _ (slice_get t.instructions place) s.vars rest (there ∙ ap Some is) (subst (λ o. Holds t.names s.vars (received held _ o)) (sym got) h, does)
+    at_code P t held place a _ (slice_get t.instructions place) s.vars rest (there ∙ ap Some is) (subst (λ o. Holds t.names s.vars (received held (record { variable = n; fill = fill_of type }) o)) (sym got) h, does)
 synced_after P t s held (tree.Assign w init) rest place next a h (i, there, (n, x, found, from, is)) does got wish =
-    at_code P t held place a _ (slice_get t.instructions place) s.vars rest (there ∙ ap Some is) (subst (λ o. Holds t.names s.vars (received held _ o)) (sym got) h, does)
+    at_code P t held place a _ (slice_get t.instructions place) s.vars rest (there ∙ ap Some is) (subst (λ o. Holds t.names s.vars (received held (record { variable = n; fill = fill.Again }) o)) (sym got) h, does)
 synced_after P t s held (tree.Store w e f) rest place next a h (i, there, (x, y, m, n, is)) does got wish = at_code P t held place a _ (slice_get t.instructions place) s.vars rest (there ∙ ap Some is) (h, does)
 synced_after P t s held (tree.SpawnOf w es) rest place next a h (i, there, (n, ts, found, m, is)) does got wish = at_code P t held place a _ (slice_get t.instructions place) s.vars rest (there ∙ ap Some is) (h, does)
 synced_after P t s held tree.SyncAll rest place next a h (i, there, is) does got wish = at_code P t held place a _ (slice_get t.instructions place) s.vars rest (there ∙ ap Some is) (h, does)

@@ -12,3 +12,5 @@ mod starting;
 mod steps;
 pub mod task;
 pub mod term;
+#[cfg(test)]
+mod tests;

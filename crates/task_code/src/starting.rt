@@ -41,7 +41,7 @@ pub fn frame_at(
 {
     match code.task(which) {
         Some(task) => frame_of(alloc, task, args),
-        None => Frame::make(alloc, &[]),
+        None => Ok(Frame::make(alloc, &[])?),
     }
 }
 
