@@ -70,9 +70,9 @@ holds_front names vars slots w n x h found =
     record {
       each = λ u. by_bool (λ b. cond b x (slot_at vars u) ≡ slot_for (slice_set slots n x) (find_name names u)) (bytes_eq w u)
           (λ yes. (
-            let set : x ≡ slot_for (slice_set slots n x) (find_name names w) =
-            sym (get_or-set_same slots n x zero_slot (omega (arith, below_names names n w found, h.long))) ∙ ap (slot_for (slice_set slots n x)) (sym found) in
-            subst (λ v. x ≡ slot_for (slice_set slots n x) (find_name names v)) (word_is w u yes) set))
+          let set : x ≡ slot_for (slice_set slots n x) (find_name names w) =
+          sym (get_or-set_same slots n x zero_slot (omega (arith, below_names names n w found, h.long))) ∙ ap (slot_for (slice_set slots n x)) (sym found) in
+          subst (λ v. x ≡ slot_for (slice_set slots n x) (find_name names v)) (word_is w u yes) set))
           (λ no. h.each u ∙ unset slots n x (find_name names u) (λ m e same. not_both (bytes_eq w u) (same_word w u (one_word names m n u w e found same)) no));
       long = length-set slots n x ∙ h.long;
     }

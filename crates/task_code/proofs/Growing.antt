@@ -73,22 +73,20 @@ one_added what old new i (Err e) is p = tt
 pub if_added : (g : Place) (s : tree.Stmt) (e : tree.Expr) (b : tree.Block) (t : tree.Tail) (test : Term) (next then otherwise : ℕ) (c0 c1 c2 c3 : List Instruction) (r : Result ℕ NoMemory) → s ≡ tree.If' e b t → MeansExpr g.names e test
     → Grows c0 c1 × DoesTail g c1 t next otherwise → Grows c1 c2 × DoesBlock g c2 b next then → IfOk r (λ at. Pushed c2 c3 (Branch test then otherwise) at) → IfOk r (λ at. Grows c0 c3 × DoesStmt g c3 s next at)
 if_added g s e b t test next then otherwise c0 c1 c2 c3 (Ok at) is means x y p =
-    let last = grows_by_one c2 c3 _ at p in
-    (
+    let last = grows_by_one c2 c3 _ at p in (
       grows_on c0 c1 c3 x.0 (grows_on c1 c2 c3 y.0 last),
       subst (λ (q : tree.Stmt). DoesStmt g c3 q next at) (sym is)
-      (test, then, otherwise, means, pushed_there c2 c3 _ at p, block_grown g c2 c3 b next then last y.1, tail_grown g c1 c3 t next otherwise (grows_on c1 c2 c3 y.0 last) x.1),
+          (test, then, otherwise, means, pushed_there c2 c3 _ at p, block_grown g c2 c3 b next then last y.1, tail_grown g c1 c3 t next otherwise (grows_on c1 c2 c3 y.0 last) x.1),
     )
 if_added g s e b t test next then otherwise c0 c1 c2 c3 (Err x) is means y z p = tt
 
 pub while_added : (g : Place) (s : tree.Stmt) (e : tree.Expr) (b : tree.Block) (test : Term) (next then entry at : ℕ) (c0 c1 c2 : List Instruction) → s ≡ tree.While' e b → MeansExpr g.names e test → Grows c0 c1 × DoesBlock g c1 b entry then
     → Pushed c1 c2 (Branch test then next) at → at ≡ entry → Grows c0 c2 × DoesStmt g c2 s next at
 while_added g s e b test next then entry at c0 c1 c2 is means x p same =
-    let last = grows_by_one c1 c2 _ at p in
-    (
+    let last = grows_by_one c1 c2 _ at p in (
       grows_on c0 c1 c2 x.0 last,
       subst (λ (q : tree.Stmt). DoesStmt g c2 q next at) (sym is)
-      (test, then, means, pushed_there c1 c2 _ at p, subst (λ m. DoesBlock g c2 b m then) (sym same) (block_grown g c1 c2 b entry then last x.1)),
+          (test, then, means, pushed_there c1 c2 _ at p, subst (λ m. DoesBlock g c2 b m then) (sym same) (block_grown g c1 c2 b entry then last x.1)),
     )
 
 -- ---- the loop over a block

@@ -194,8 +194,7 @@ is_opened values ps i n p q h g first many =
     let inside = lies_in ps 0 (length values) i p h g in
     let room = room_there ps i p g in
     let enough = dropped_length p.first values in
-    let size : length (take (min n p.room) (drop p.first values)) ≡ min n p.room = taken_length (min n p.room) (drop p.first values) (omega (arith, inside.to, enough)) in
-    (
+    let size : length (take (min n p.room) (drop p.first values)) ≡ min n p.room = taken_length (min n p.room) (drop p.first values) (omega (arith, inside.to, enough)) in (
       take (min n p.room) (drop p.first values),
       size ∙ ap (min n) (sym room),
       slots_reshaped values ps i q ∙ ap (slice_set (slots_of values ps) i) (ap (shaped values q.first) many ∙ ap (λ m. Many (take (min n p.room) (drop m values))) first),
@@ -242,8 +241,7 @@ one_more (suc k) v left = ap (λ xs. v ∷ xs) (one_more k v left) ∙ ap (λ n.
 pub each_step : (old now new : List Slot) (i k n : ℕ) (v : Value) (vs : List Value) → k < n → length vs + k ≡ n → now ≡ slice_set old i (Many (replicate k v ++ vs)) → new ≡ slice_set now i (with_element (get_or now i zero_slot) k v)
     → (ws : List Value) × (length ws + (k + 1) ≡ n) × (new ≡ slice_set old i (Many (replicate (k + 1) v ++ ws)))
 each_step old now new i k n v vs below long is set =
-    let some = has_first vs (omega arith) in
-    (
+    let some = has_first vs (omega arith) in (
       some.rest,
       omega (arith, ap length some.is),
       set ∙ next_is_set old now i k (replicate k v) some.rest some.first v (is ∙ ap (λ xs. slice_set old i (Many (replicate k v ++ xs))) some.is) (length-replicate k v) ∙ ap (λ xs. slice_set old i (Many xs)) (one_more k v some.rest),
@@ -253,8 +251,7 @@ pub copy_step : (old now new : List Slot) (i k : ℕ) (values vs : List Value) (
     → (ws : List Value) × (length ws + (k + 1) ≡ length values) × (new ≡ slice_set old i (Many (take (k + 1) values ++ ws)))
 copy_step old now new i k values vs v below read long is set =
     let some = has_first vs (omega arith) in
-    let more : take k values ++ v ∷ some.rest ≡ take (k + 1) values ++ some.rest = ap (λ x. take k values ++ x ∷ some.rest) read ∙ sym (append_assoc (take k values) (get_or values k v ∷ []) some.rest) ∙ ap (λ xs. xs ++ some.rest) (sym (take_more values k v below)) in
-    (
+    let more : take k values ++ v ∷ some.rest ≡ take (k + 1) values ++ some.rest = ap (λ x. take k values ++ x ∷ some.rest) read ∙ sym (append_assoc (take k values) (get_or values k v ∷ []) some.rest) ∙ ap (λ xs. xs ++ some.rest) (sym (take_more values k v below)) in (
       some.rest,
       omega (arith, ap length some.is),
       set ∙ next_is_set old now i k (take k values) some.rest some.first v (is ∙ ap (λ xs. slice_set old i (Many (take k values ++ xs))) some.is) (length-take-le k values (omega arith)) ∙ ap (λ xs. slice_set old i (Many xs)) more,

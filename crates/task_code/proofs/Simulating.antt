@@ -69,9 +69,9 @@ holds_put names vars slots w n x h found =
     record {
       each = λ u. by_bool (λ b. slot_at (put vars w x) u ≡ slot_for (slice_set slots n x) (find_name names u)) (bytes_eq w u)
           (λ yes. (
-            let set : slot_at (put vars w x) w ≡ slot_for (slice_set slots n x) (find_name names w) =
-            slot_put_same vars w x ∙ sym (get_or-set_same slots n x zero_slot (omega (arith, below_names names n w found, h.long))) ∙ ap (slot_for (slice_set slots n x)) (sym found) in
-            subst (λ v. slot_at (put vars w x) v ≡ slot_for (slice_set slots n x) (find_name names v)) (word_is w u yes) set))
+          let set : slot_at (put vars w x) w ≡ slot_for (slice_set slots n x) (find_name names w) =
+          slot_put_same vars w x ∙ sym (get_or-set_same slots n x zero_slot (omega (arith, below_names names n w found, h.long))) ∙ ap (slot_for (slice_set slots n x)) (sym found) in
+          subst (λ v. slot_at (put vars w x) v ≡ slot_for (slice_set slots n x) (find_name names v)) (word_is w u yes) set))
           (λ no. slot_put_other vars w x u no ∙ h.each u ∙ unset slots n x (find_name names u) (λ m e same. not_both (bytes_eq w u) (same_word w u (one_word names m n u w e found same)) no));
       long = length-set slots n x ∙ h.long;
     }
@@ -170,15 +170,13 @@ store_case : (P : tree.Program) (t : TaskCode) (is_open : Bool) (held : Held) (v
     → slot_at vars w ≡ x → number_by held.slots a ≡ number_in vars e → value_by held.slots b ≡ value_in vars f → number_by held.slots b ≡ number_in vars f
     → Does (where_of P t) t.instructions next rest
     → Followed P t is_open held (record { vars = vars; todo = tree.Store w e f ∷ rest; is_open = is_open }) (Some (Store o (find_array (cell_arrays P) w) a b next)) (moved_to next (store_slots held.slots o x (number_by held.slots a) (value_by held.slots b)))
-store_case P t is_open held vars w e f rest a b next o (One v) h found is same index value number does =
-    (
-      ap (λ y. store_step (record { vars = vars; todo = tree.Store w e f ∷ rest; is_open = is_open }) rest w y (number_in vars e) (value_in vars f)) same,
-      sym (ap (λ c. write_of c (number_by held.slots b)) (same_cell (cell_arrays P) w (number_by held.slots a)) ∙ ap (λ z. write_of (cell_at P w z) (number_by held.slots b)) index ∙ ap (write_of (cell_at P w (number_in vars e))) number),
-    )
+store_case P t is_open held vars w e f rest a b next o (One v) h found is same index value number does = (
+  ap (λ y. store_step (record { vars = vars; todo = tree.Store w e f ∷ rest; is_open = is_open }) rest w y (number_in vars e) (value_in vars f)) same,
+  sym (ap (λ c. write_of c (number_by held.slots b)) (same_cell (cell_arrays P) w (number_by held.slots a)) ∙ ap (λ z. write_of (cell_at P w z) (number_by held.slots b)) index ∙ ap (write_of (cell_at P w (number_in vars e))) number),
+)
 store_case P t is_open held vars w e f rest a b next None (Many vs) h found is same index value number does = absurd (cc)
 store_case P t is_open held vars w e f rest a b next (Some n) (Many vs) h found is same index value number does =
-    let new = Many (slice_set vs (index_of (length vs) (number_by held.slots a)) (value_by held.slots b)) in
-    (
+    let new = Many (slice_set vs (index_of (length vs) (number_by held.slots a)) (value_by held.slots b)) in (
       goes_on (record { vars = vars; todo = tree.Store w e f ∷ rest; is_open = is_open }) rest (put vars w new),
       ap (λ y. store_step (record { vars = vars; todo = tree.Store w e f ∷ rest; is_open = is_open }) rest w y (number_in vars e) (value_in vars f)) same
           ∙ ap (λ z. store_step (record { vars = vars; todo = tree.Store w e f ∷ rest; is_open = is_open }) rest w (Many vs) z (value_in vars f)) (sym index)
@@ -196,15 +194,14 @@ branch_case : (P : tree.Program) (t : TaskCode) (is_open : Bool) (held : Held) (
     → local_step (record { vars = vars; todo = stmt ∷ rest; is_open = is_open }) ≡ Some (record { vars = vars; todo = cond (is_zero (number_in vars e)) that this; is_open = is_open })
     → Does (where_of P t) t.instructions then this → Does (where_of P t) t.instructions otherwise that
     → Followed P t is_open held (record { vars = vars; todo = stmt ∷ rest; is_open = is_open }) (Some (Branch test then otherwise)) (moves held (Some (Branch test then otherwise)))
-branch_case P t is_open held vars stmt rest test then otherwise e this that h same step a b =
-    (
-      record { vars = vars; todo = cond (is_zero (number_in vars e)) that this; is_open = is_open },
-      step,
-      h,
-      subst (λ z. Does (where_of P t) t.instructions (cond (is_zero z) otherwise then) (cond (is_zero (number_in vars e)) that this)) (sym same)
+branch_case P t is_open held vars stmt rest test then otherwise e this that h same step a b = (
+  record { vars = vars; todo = cond (is_zero (number_in vars e)) that this; is_open = is_open },
+  step,
+  h,
+  subst (λ z. Does (where_of P t) t.instructions (cond (is_zero z) otherwise then) (cond (is_zero (number_in vars e)) that this)) (sym same)
       (by_bool (λ c. Does (where_of P t) t.instructions (cond c otherwise then) (cond c that this)) (is_zero (number_in vars e)) (λ q. b) (λ q. a)),
-      refl,
-    )
+  refl,
+)
 
 pub stmt_followed : (P : tree.Program) (t : TaskCode) (is_open : Bool) (held : Held) (vars : Variables) (stmt : tree.Stmt) (rest : List tree.Stmt) (place next : ℕ) → Holds t.names vars held.slots → held.rooms ≡ rooms_by t.names
     → DoesStmt (where_of P t) t.instructions stmt next place → Does (where_of P t) t.instructions next rest
@@ -237,11 +234,11 @@ stmt_followed P t is_open held vars (tree.Return' e) rest place next h rooms (i,
 stmt_followed P t is_open held vars (tree.If' e b o) rest place next h rooms (test, then, otherwise, means, there, block, tail) does =
     at_code P t is_open held (record { vars = vars; todo = tree.If' e b o ∷ rest; is_open = is_open }) (Some (Branch test then otherwise)) _ there
     (branch_case P t is_open held vars (tree.If' e b o) rest test then otherwise e (stmts_of b ++ rest) (else_of o ++ rest) h (same_number t.names vars held.slots e test h means) refl
-      (does_append (where_of P t) t.instructions b next then rest block does) (does_tail (where_of P t) t.instructions o next otherwise rest tail does))
+    (does_append (where_of P t) t.instructions b next then rest block does) (does_tail (where_of P t) t.instructions o next otherwise rest tail does))
 stmt_followed P t is_open held vars (tree.While' e b) rest place next h rooms (test, then, means, there, block) does =
     at_code P t is_open held (record { vars = vars; todo = tree.While' e b ∷ rest; is_open = is_open }) (Some (Branch test then next)) _ there
     (branch_case P t is_open held vars (tree.While' e b) rest test then next e (stmts_of b ++ tree.While' e b ∷ rest) rest h (same_number t.names vars held.slots e test h means) refl
-      (does_append (where_of P t) t.instructions b place then (tree.While' e b ∷ rest) block (next, (test, then, means, there, block), does)) does)
+    (does_append (where_of P t) t.instructions b place then (tree.While' e b ∷ rest) block (next, (test, then, means, there, block), does)) does)
 
 -- a body ends
 end_followed : (P : tree.Program) (t : TaskCode) (is_open : Bool) (held : Held) (vars : Variables) (o : Option Instruction) → IsEnd o → Followed P t is_open held (record { vars = vars; todo = []; is_open = is_open }) o (moves held o)

@@ -73,11 +73,11 @@ turned P code args old new s running x turn =
       state = subst (λ w. IsStateAfter P w args (trace_events new.trace.items) s) (sym turn.which) (subst (λ tr. IsStateAfter P old.which args (trace_events tr.items) s) (sym turn.trace) x.state);
       typed = λ e. subst (λ w. IsTypedState any_future P w s) (sym turn.which) (x.typed running);
       place = λ e. (
-          g.0,
-          subst (λ n. Steps n s g.0) (sym turn.steps) (steps_more old.spot.steps s place.0 g.0 place.1 g.1),
-          subst (λ w. IsIn P (code_of code.tasks w) new.spot new.held g.0) (sym turn.which)
-          (record { vars = g.2; rooms = turn.rooms ∙ place.2.rooms; is_open = turn.is_open ∙ place.2.is_open ∙ sym g.4; todo = g.3 }),
-        );
+        g.0,
+        subst (λ n. Steps n s g.0) (sym turn.steps) (steps_more old.spot.steps s place.0 g.0 place.1 g.1),
+        subst (λ w. IsIn P (code_of code.tasks w) new.spot new.held g.0) (sym turn.which)
+            (record { vars = g.2; rooms = turn.rooms ∙ place.2.rooms; is_open = turn.is_open ∙ place.2.is_open ∙ sym g.4; todo = g.3 }),
+      );
     }
 
 -- where a task is still, it stands at an event, and wishes what its instruction does
@@ -149,11 +149,10 @@ starts_at : (P : tree.Program) (texts : List TaskText) (codes : List TaskCode) (
 starts_at P [] [] n args slots d h = (h [] tt, tt)
 starts_at P [] (c ∷ codes) n args slots d h = absurd d
 starts_at P (t ∷ texts) [] n args slots d h = absurd d
-starts_at P (t ∷ texts) (c ∷ codes) zero args slots d h =
-    (
-      h t.params d.0.given,
-      subst (λ todo. Does (where_of P c) c.instructions c.entry todo) (append-nil (stmts_of t.body)) (does_append (where_of P c) c.instructions t.body 0 c.entry [] d.0.does (subst IsEnd (sym d.0.ends) refl)),
-    )
+starts_at P (t ∷ texts) (c ∷ codes) zero args slots d h = (
+  h t.params d.0.given,
+  subst (λ todo. Does (where_of P c) c.instructions c.entry todo) (append-nil (stmts_of t.body)) (does_append (where_of P c) c.instructions t.body 0 c.entry [] d.0.does (subst IsEnd (sym d.0.ends) refl)),
+)
 starts_at P (t ∷ texts) (c ∷ codes) (suc n) args slots d h = starts_at P texts codes n args slots d.1 h
 
 closed : (o : Option TaskText) (args : List Value) → false ≡ (started o args).is_open
@@ -171,15 +170,15 @@ begins P code args task is fit spot trace rooms holds =
       state = subst (λ xs. IsStateAfter P task.which args (trace_events xs) s) (sym trace) refl;
       typed = λ e. start_typed any_future P task.which args is.typed fit;
       place = λ e. (
-          s,
-          subst (λ (q : Spot). Steps q.steps s s) (sym spot) refl,
-          record {
-            vars = d.0;
-            rooms = rooms;
-            is_open = ap (λ (q : Spot). q.is_open) spot ∙ closed (task_at P task.which) args;
-            todo = subst (λ (q : Spot). Does (where_of P tc) tc.instructions q.place s.todo) (sym spot) d.1;
-          },
-        );
+        s,
+        subst (λ (q : Spot). Steps q.steps s s) (sym spot) refl,
+        record {
+          vars = d.0;
+          rooms = rooms;
+          is_open = ap (λ (q : Spot). q.is_open) spot ∙ closed (task_at P task.which) args;
+          todo = subst (λ (q : Spot). Does (where_of P tc) tc.instructions q.place s.todo) (sym spot) d.1;
+        },
+      );
     }
 
 -- ---- an entry
@@ -217,12 +216,11 @@ fed P code args old new s t ticket entry which spot slots rooms trace is still x
           (effect_stays any_future P old.which t a is.typed kept stop answers (not_ended old.spot.ended a running (subst (λ (q : Spot). q.ended ≡ false) spot e)) fit);
       place = λ e. (
           let y = fed_in P (code_of code.tasks old.which) old.spot old.held t a inside answers (subst (λ (q : Spot). q.ended ≡ false) spot e) in
-          let z = subst (λ (q : Spot). IsIn P (code_of code.tasks old.which) q (record { slots = slots_after old.held (instruction_of code old) a; rooms = old.held.rooms }) (effect_of t a)) (sym spot) y in
-          (
+          let z = subst (λ (q : Spot). IsIn P (code_of code.tasks old.which) q (record { slots = slots_after old.held (instruction_of code old) a; rooms = old.held.rooms }) (effect_of t a)) (sym spot) y in (
             effect_of t a,
             subst (λ (q : Spot). Steps q.steps (effect_of t a) (effect_of t a)) (sym spot) refl,
             subst (λ w. IsIn P (code_of code.tasks w) new.spot new.held (effect_of t a)) (sym which)
-            (record { vars = subst (Holds (code_of code.tasks old.which).names (effect_of t a).vars) (sym slots) z.vars; rooms = rooms ∙ z.rooms; is_open = z.is_open; todo = z.todo }),
+                (record { vars = subst (Holds (code_of code.tasks old.which).names (effect_of t a).vars) (sym slots) z.vars; rooms = rooms ∙ z.rooms; is_open = z.is_open; todo = z.todo }),
           ));
     }
 

@@ -172,13 +172,7 @@ fn codes_of(
     let mut codes = Vec::new(alloc);
     for item in items {
         if let Item::Task(_, params, _, body) = item {
-            codes.push(code_of(
-                alloc,
-                items,
-                arrays,
-                params.as_slice(),
-                body.as_slice(),
-            )?)?;
+            codes.push(code_of(alloc, items, arrays, params.as_slice(), body.as_slice())?)?;
         }
     }
     Ok(Items::from_vec(codes))

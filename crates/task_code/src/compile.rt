@@ -31,11 +31,7 @@ fn term_of(alloc: Global, scope: &Scope, expr: &Expr) -> Result<Term, NoMemory>
         Expr::Pair(left, op, right) => {
             let left = term_of_operand(alloc, scope, left)?;
             let right = term_of_operand(alloc, scope, right)?;
-            Ok(Term::Pair(
-                Boxed::new(alloc, left)?,
-                *op,
-                Boxed::new(alloc, right)?,
-            ))
+            Ok(Term::Pair(Boxed::new(alloc, left)?, *op, Boxed::new(alloc, right)?))
         }
     }
 }

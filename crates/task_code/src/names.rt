@@ -49,12 +49,7 @@ fn room_for(kind: &VarType) -> Result<u32, NoMemory> {
 }
 
 /// Adds a name where it is new, and sees that its variable has so much room.
-fn note(
-    alloc: Global,
-    names: &mut Vec<Name>,
-    word: &[u8],
-    room: u32,
-) -> Result<(), NoMemory> {
+fn note(alloc: Global, names: &mut Vec<Name>, word: &[u8], room: u32) -> Result<(), NoMemory> {
     for name in names.iter_mut() {
         if name.word.as_slice() == word {
             name.room = u32::max(name.room, room);
@@ -67,11 +62,7 @@ fn note(
 }
 
 /// The names of a task: of its parameters, and of what its statements declare or set.
-pub fn names_of(
-    alloc: Global,
-    params: &[Param],
-    body: &[Stmt],
-) -> Result<Items<Name>, NoMemory> {
+pub fn names_of(alloc: Global, params: &[Param], body: &[Stmt]) -> Result<Items<Name>, NoMemory> {
     let mut names = Vec::new(alloc);
     for param in params {
         note(

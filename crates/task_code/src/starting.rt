@@ -30,12 +30,7 @@ pub fn frame_of(alloc: Global, task: &TaskCode, args: &[Value]) -> Result<Frame,
 }
 
 /// The variables of the task of the text at a place, as it begins with these arguments.
-pub fn frame_at(
-    alloc: Global,
-    code: &Code,
-    which: u32,
-    args: &[Value],
-) -> Result<Frame, NoMemory>
+pub fn frame_at(alloc: Global, code: &Code, which: u32, args: &[Value]) -> Result<Frame, NoMemory>
     ensures rooms { IfOk result (λ f. f.rooms ≡ rooms_by (code_of code.now.tasks which).names) }
     ensures holds { IfOk result (λ f. (ps : List Parameter) → AreGiven (code_of code.now.tasks which).names 0 ps (code_of code.now.tasks which).params → Holds (code_of code.now.tasks which).names (bound ps args.now) f.slots) }
 {

@@ -69,7 +69,9 @@ fn local_value(frame: &Frame, source: &Source) -> Option<Value>
     match source {
         Source::Value(term) => Some(term.value(frame)),
         Source::Element {
-            variable, index, ..
+            variable,
+            index,
+            ..
         } => element(frame, *variable, index.number(frame)),
         Source::Get { .. } | Source::Create { .. } => None,
     }

@@ -42,9 +42,12 @@ fn row(rt: &impl Abort, alloc: Global, text: &str) -> Result<(u32, u32, usize, u
 #[test]
 fn texts_become_code(rt: HostRuntime) -> Result<(), Fail> {
     let alloc = rt.alloc();
-    assert_eq!(rt; row(&rt, alloc, "task main() int { return 0; }")?, (0, 0, 2, 0));
-    assert_eq!(
-        rt; row(
+    assert_eq!(rt;
+        row(&rt, alloc, "task main() int { return 0; }")?,
+        (0, 0, 2, 0)
+    );
+    assert_eq!(rt;
+        row(
             &rt,
             alloc,
             "cells a[3]; cells b[2]; task f(x: int, r: fut int[2]) int { var y: int = x; if y { y = 1; } else { a[y] = 2; } while y { y = y - 1; b[-1] = y; } return y; } task main() int { return 0; }"
