@@ -1,6 +1,6 @@
 -- From what came of a program to the verdict on its text.
 use Rattle.std.proofs.Common.{◌≡◌, ℕ, ◌≤◌, List, [], ◌∷◌, length, refl, sym, ap, ◌∙◌, subst, arith}
-use Rattle.std.specs.Prelude.{Option, Some, None, IfSome, IsSomeAnd, Ok}
+use Rattle.std.specs.Prelude.{Option, Some, None, IfSome, IsSomeAnd, Ok, ℤ}
 use Rattle.fut_base.specs.declared.event.Event.{Event}
 use Rattle.fut_base.specs.declared.record.Race.{Race}
 use Rattle.fut_base.specs.declared.record.Finish.{Finish}
@@ -24,7 +24,7 @@ use Rattle.run_replay.specs.Serials.{IsSerialRun}
 use Rattle.fut_main.specs.Asking.{Asked, Asks}
 use Rattle.fut_main.specs.Outcomes.{ending_of, WasRun, OutcomeOf, TextWasRun, IsOutcome}
 use Rattle.fut_main.specs.Due.{verdict_text}
-use Rattle.fut_main.specs.Verdict.{IsRead, IsWellTypedText, IsIllTypedText, IsRunOf, EndsIn, IsOfRun, IsOfText, IsVerdict}
+use Rattle.fut_main.specs.Verdict.{IsRead, IsWellTypedText, IsIllTypedText, IsRunOf, EndsIn, limits_of, IsOfRun, IsOfText, IsVerdict}
 
 -- ---- a program
 
@@ -37,16 +37,16 @@ not_whole_local t h = cc
 not_whole_futures : (t : ℕ) → finish.Futures t ≡ finish.Whole → ⊥
 not_whole_futures t h = cc
 
-pub ends_in : (P : tree.Program) (bound : ℕ) (h : List Event) (races : List Race) (end : Finish) → IsSerialRun P bound h end → IsReport h races → EndsIn P bound (ending_of end races) h races
-ends_in P bound h [] finish.Whole run report = (record { run = run; report = report }, refl)
-ends_in P bound h (r ∷ rs) finish.Whole run report = (record { run = run; report = report }, λ none. absurd (cc))
-ends_in P bound h races (finish.Events b) run report = (record { run = run; report = report }, not_whole_events b)
-ends_in P bound h races (finish.Local t) run report = (record { run = run; report = report }, not_whole_local t)
-ends_in P bound h races (finish.Futures t) run report = (record { run = run; report = report }, not_whole_futures t)
+pub ends_in : (P : tree.Program) (bound : ℕ) (h : List Event) (races : List Race) (end : Finish) → (cells : List ℤ) → IsSerialRun P (limits_of bound) h end cells → IsReport h races → EndsIn P bound (ending_of end races) h races
+ends_in P bound h [] finish.Whole cells run report = (record { cells = cells; run = run; report = report }, refl)
+ends_in P bound h (r ∷ rs) finish.Whole cells run report = (record { cells = cells; run = run; report = report }, λ none. absurd (cc))
+ends_in P bound h races (finish.Events b) cells run report = (record { cells = cells; run = run; report = report }, not_whole_events b)
+ends_in P bound h races (finish.Local t) cells run report = (record { cells = cells; run = run; report = report }, not_whole_local t)
+ends_in P bound h races (finish.Futures t) cells run report = (record { cells = cells; run = run; report = report }, not_whole_futures t)
 
-pub run_ends : (o : Option tree.Program) (code : Compiled) (bound : ℕ) (h : List Event) (races : List Race) (end : Finish) (s : Status) → ((P : tree.Program) → o ≡ Some P → IsCodeOf P code) → IsSomeAnd o IsWellTyped → ((P : tree.Program) → IsWellTyped P → IsCodeOf P code → IsSerialRun P bound h end) → IsReport h races → s ≡ ending_of end races → IfSome o (λ P. EndsIn P bound s h races)
-run_ends None code bound h races end s of typed run report is = tt
-run_ends (Some P) code bound h races end s of typed run report is = subst (λ x. EndsIn P bound x h races) (sym is) (ends_in P bound h races end (run P typed (of P refl)) report)
+pub run_ends : (o : Option tree.Program) (code : Compiled) (bound : ℕ) (h : List Event) (races : List Race) (end : Finish) (cells : List ℤ) (s : Status) → ((P : tree.Program) → o ≡ Some P → IsCodeOf P code) → IsSomeAnd o IsWellTyped → ((P : tree.Program) → IsWellTyped P → IsCodeOf P code → IsSerialRun P (limits_of bound) h end cells) → IsReport h races → s ≡ ending_of end races → IfSome o (λ P. EndsIn P bound s h races)
+run_ends None code bound h races end cells s of typed run report is = tt
+run_ends (Some P) code bound h races end cells s of typed run report is = subst (λ x. EndsIn P bound x h races) (sym is) (ends_in P bound h races end cells (run P typed (of P refl)) report)
 
 -- ---- a text
 

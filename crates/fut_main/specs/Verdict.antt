@@ -1,9 +1,10 @@
 -- What `forder` and `plain` answer, and why.
-use Rattle.std.specs.Prelude.{◌≡◌, ◌≢◌, ℕ, ◌+◌, ◌≤◌, true, List, [], ◌∷◌, ◌++◌, length, codes, slice_get, Option, Some, ◌⊎◌}
+use Rattle.std.specs.Prelude.{◌≡◌, ◌≢◌, ℕ, ◌+◌, ◌≤◌, true, List, [], ◌∷◌, ◌++◌, length, codes, slice_get, Option, Some, ◌⊎◌, ℤ}
 use Rattle.std.specs.Io.KnownBytes.{Appends, Consumes, IsAtEnd}
 use Rattle.fut_base.specs.declared.event.Event.{Event}
 use Rattle.fut_base.specs.declared.record.Race.{Race}
 use Rattle.fut_base.specs.declared.record.Finish.{Finish}
+use Rattle.fut_base.specs.declared.record.Limits.{Limits}
 use Rattle.fut_base.specs.declared.record.Finish.TheVariants as finish
 use Rattle.fut_base.specs.Ports.{Rose, AppendsPart}
 use Rattle.fut_base.specs.Racing.{IsReport}
@@ -66,9 +67,14 @@ IsPrinted bytes printed = (P : tree.Program) × IsWellTypedText bytes P × (prin
 
 -- ---- runs
 
+-- the limits of a run of so many entries
+abbrev pub limits_of : ℕ → Limits
+limits_of bound = record { events = bound; local_steps = 1000000; futures = 4096 }
+
 -- a history is the serial run of a program up to so many entries, which ended so, and these are its races
 pub record IsRunOf (P : tree.Program) (bound : ℕ) (h : List Event) (end : Finish) (races : List Race) : Type 0 where
-  pub run : IsSerialRun P bound h end
+  pub cells : List ℤ
+  pub run : IsSerialRun P (limits_of bound) h end cells
   pub report : IsReport h races
 
 -- how the run of a program ended: whole without a race, whole with one, or spent

@@ -7,4 +7,4 @@ use Rattle.fut_main.proofs.outcome.run_program.Goals as goal
 pub returns : goal.returns
 returns c =
     let o = program_tree c.args.checked.now.program.now.items in
-    run_ends o c.in_ok-code.code c.args.events (events_of c.in_ok-ran.ran.history) c.in_ok-ran.ran.races.items c.in_ok-ran.ran.finish _ c.in_ok-code.ensures (no_faults o c.args.checked.now.well_typed) c.in_ok-ran.ensures.run c.in_ok-ran.ensures.races c.ending-status.ensures
+    run_ends o c.in_ok-code.code c.args.events (events_of c.in_ok-ran.ran.history) c.in_ok-ran.ran.races.items c.in_ok-ran.ran.finish c.in_ok-ran.ran.cells.items _ c.in_ok-code.ensures (no_faults o c.args.checked.now.well_typed) c.in_ok-ran.ensures.run c.in_ok-ran.ensures.races c.ending-status.ensures
