@@ -1,12 +1,12 @@
 -- How a task begins.
-use Rattle.std.proofs.Common.{◌≡◌, ℕ, zero, suc, ◌+◌, ◌-◌, ◌<◌, ◌≤◌, Bool, true, false, cond, List, [], ◌∷◌, length, map, take, drop, get_or, replicate, refl, sym, ap, ◌∙◌, subst, arith}
-use Rattle.std.specs.Prelude.{Option, Some, None, bytes_eq, slice_get, slice_set, slice_index, max}
-use Rattle.std.proofs.lemmas.List.{get_or-set_same, get_or-set_other, length-set, length-replicate, length-take}
+use Rattle.std.proofs.Common.{◌≡◌, ℕ, zero, suc, ◌+◌, ◌-◌, ◌<◌, ◌≤◌, cond, List, [], ◌∷◌, length, take, drop, get_or, replicate, refl, sym, ap, ◌∙◌, subst, arith}
+use Rattle.std.specs.Prelude.{Option, Some, None, bytes_eq, slice_set, slice_index}
+use Rattle.std.proofs.lemmas.List.{get_or-set_same, length-set, length-replicate}
 use Rattle.fut_base.specs.declared.record.Value.{Value}
 use Rattle.fut_syntax.specs.Trees as tree
 use Rattle.fut_syntax.specs.Views.{type_tree}
-use Rattle.task_machine.specs.Variables.{Slot, One, Many, Variables, slot_at, size_of, taken, bound}
-use Rattle.task_types.proofs.Slots.{by_bool, cond_true, cond_false, not_both, same_word, word_is}
+use Rattle.task_machine.specs.Variables.{Slot, Many, Variables, slot_at, size_of, taken, bound}
+use Rattle.task_types.proofs.Slots.{by_bool, not_both, same_word, word_is}
 use Rattle.task_code.specs.declared.names.Name.{Name}
 use Rattle.task_code.specs.declared.code.Given.{Given}
 use Rattle.task_code.specs.declared.code.TaskCode.{TaskCode}

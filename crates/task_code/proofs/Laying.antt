@@ -1,9 +1,9 @@
 -- Values that lie in one list, variable behind variable.
-use Rattle.std.proofs.Common.{◌≡◌, ℕ, zero, suc, ◌+◌, ◌-◌, ◌<◌, ◌≤◌, ◌⊎◌, inl, inr, min, List, [], ◌∷◌, ◌++◌, length, map, take, drop, get_or, replicate, refl, sym, ap, ◌∙◌, subst, arith, length-append, append_assoc}
+use Rattle.std.proofs.Common.{◌≡◌, ℕ, zero, suc, ◌+◌, ◌-◌, ◌<◌, ◌≤◌, ◌⊎◌, inl, inr, min, List, [], ◌∷◌, ◌++◌, length, map, take, drop, get_or, replicate, refl, sym, ap, ◌∙◌, subst, arith, append_assoc}
 use Rattle.std.specs.Prelude.{Some, None, slice_get, slice_set, slice_index, max}
 use Rattle.std.proofs.lemmas.List.{map-set, get_or-set_same, get_or-set_other, take-set-le, drop-set-lt, drop-set-add, set-set, set-get_or, set_past, append-nil, length-take-le, take_more, length-replicate, length-drop, take_min, take-append-le, drop-append-le, map-append}
-use Rattle.std.proofs.Math.Seq.{take-length, set-append_seam, take-set-lt, get_or-append_seam}
-use Rattle.std.proofs.Math.ListN.{get_or-append, length-set}
+use Rattle.std.proofs.Math.Seq.{take-length, set-append_seam, take-set-lt}
+use Rattle.std.proofs.Math.ListN.{get_or-append}
 use Rattle.fut_base.specs.declared.record.Value.{Value}
 use Rattle.task_machine.specs.Variables.{Slot, One, Many, refilled}
 use Rattle.task_code.specs.declared.frame.Shape.{Shape}

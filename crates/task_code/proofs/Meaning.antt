@@ -1,6 +1,6 @@
 -- Terms that mean what expressions do.
 use Rattle.std.proofs.Common.{◌≡◌, ℕ, zero, suc, ◌≤◌, List, [], ◌∷◌, ◌++◌, length, drop, refl, sym, ap, ◌∙◌, subst, arith}
-use Rattle.std.specs.Prelude.{ℤ, pos, Option, Some, None, Result, Ok, Err, IfOk}
+use Rattle.std.specs.Prelude.{ℤ, pos, Some, None, Result, Ok, Err, IfOk}
 use Rattle.std.specs.Int.{w64, int_wrapping_neg}
 use Rattle.fut_base.specs.declared.record.Value.TheVariants.{Int}
 use Rattle.fut_syntax.specs.declared.tree.Operator.{Operator}
@@ -10,13 +10,13 @@ use Rattle.fut_syntax.specs.Views.{op_tree, args_tree}
 use Rattle.fut_base.specs.declared.list.NoMemory.{NoMemory}
 use Rattle.std.proofs.lemmas.List.{append-nil}
 use Rattle.task_machine.specs.Values.{number_of, truth, is_zero, combine}
-use Rattle.task_machine.specs.Variables.{Slot, One, Variables, slot_at, value_of, signed, slot_in, operand_in, primary_in}
+use Rattle.task_machine.specs.Variables.{Slot, One, value_of, signed, slot_in, operand_in, primary_in}
 use Rattle.task_code.specs.declared.term.Term.{Term, Number, Variable, Negative, Inverted, Pair, Negative', Inverted', Pair'}
 use Rattle.task_code.specs.declared.names.Name.{Name}
 use Rattle.task_code.specs.Frames.{slot_for}
-use Rattle.task_code.specs.Names.{Holds, find_name}
+use Rattle.task_code.specs.Names.{find_name}
 use Rattle.task_code.specs.Terms.{number_by, slot_by, IsSigned}
-use Rattle.task_code.specs.Flat.{Means, MeansExpr, MeanAll}
+use Rattle.task_code.specs.Flat.{Means, MeanAll}
 use Rattle.task_code.proofs.Evaluating.{negative_number, inverted_number, pair_number}
 
 negative_slot : (slots : List Slot) (t : Term) → slot_by slots (Negative t) ≡ One (Int (number_by slots (Negative t)))

@@ -1,17 +1,17 @@
 -- How the code follows the definition.
-use Rattle.std.proofs.Common.{◌≡◌, ℕ, zero, suc, ◌+◌, ◌<◌, ◌≤◌, Bool, true, false, cond, List, [], ◌∷◌, ◌++◌, length, min, replicate, get_or, refl, sym, ap, ◌∙◌, subst, arith}
+use Rattle.std.proofs.Common.{◌≡◌, ℕ, suc, ◌+◌, ◌<◌, ◌≤◌, Bool, cond, List, [], ◌∷◌, ◌++◌, length, min, replicate, refl, sym, ap, ◌∙◌, subst, arith}
 use Rattle.std.specs.Prelude.{ℤ, pos, Option, Some, None, bytes_eq, slice_get, slice_set, slice_index, option_map}
 use Rattle.std.proofs.lemmas.List.{get_or-set_same, get_or-set_other, length-set}
 use Rattle.std.proofs.lemmas.Option.{slice_get_within}
 use Rattle.fut_base.specs.declared.record.Value.{Value}
-use Rattle.fut_base.specs.declared.record.Value.TheVariants.{Int, Fut}
+use Rattle.fut_base.specs.declared.record.Value.TheVariants.{Int}
 use Rattle.fut_syntax.specs.Trees as tree
 use Rattle.fut_syntax.specs.Small.{items_of}
 use Rattle.task_machine.specs.Values.{number_of, is_zero, index_of}
 use Rattle.task_machine.specs.Variables.{Slot, One, Many, Variables, slot_at, put, value_of, values_of, filled, refilled, value_in, number_in, values_in, slot_in}
-use Rattle.task_machine.specs.Texts.{CellArray, cell_arrays, cell_at, find_cell, task_number, find_task, stmts_of, else_of}
-use Rattle.task_machine.specs.State.{TaskState, Wish, ToSpawn, element_of, local_value, init_step, store_step, step_by, first_step, local_step, goes_on, set_by, read_of, write_of, get_of, spawn_of, create_of, end_of, wish_of_init, wish_by, wish_of}
-use Rattle.task_types.proofs.Slots.{by_bool, some_one, no_some, same_word, word_is, not_both, slot_put_same, slot_put_other}
+use Rattle.task_machine.specs.Texts.{CellArray, cell_arrays, cell_at, find_cell, stmts_of, else_of}
+use Rattle.task_machine.specs.State.{TaskState, ToSpawn, element_of, local_value, init_step, store_step, first_step, local_step, goes_on, set_by, read_of, write_of, get_of, spawn_of, create_of, end_of, wish_of_init, wish_by, wish_of}
+use Rattle.task_types.proofs.Slots.{by_bool, some_one, same_word, word_is, not_both, slot_put_same, slot_put_other}
 use Rattle.task_code.specs.declared.term.Term.{Term, Number}
 use Rattle.task_code.specs.declared.frame.Shape.TheVariants as shape
 use Rattle.task_code.specs.declared.names.Name.{Name}
@@ -25,9 +25,9 @@ use Rattle.task_code.specs.declared.instruction.Instruction.TheVariants.{Set, St
 use Rattle.task_code.specs.Arrays.{array_from, find_array, cell_in, cell_for}
 use Rattle.task_code.specs.Frames.{Held, slot_in_place, slot_for, zero_slot, shape_of, with_element}
 use Rattle.task_code.specs.Names.{find_from, find_name, rooms_by, Holds, HasRoom}
-use Rattle.task_code.specs.Terms.{number_by, slot_by, value_by, values_by}
-use Rattle.task_code.specs.Flat.{Place, Means, MeansExpr, MeanAll, IsSource, IsDone, DoesStmt, DoesBlock, DoesTail, fill_of}
-use Rattle.task_code.specs.Tasks.{aimed, local_source, set_slots, array_set, store_slots, moved_to, Moved, moves, wished_source, wished, Does, IsEnd, where_of}
+use Rattle.task_code.specs.Terms.{number_by, value_by, values_by}
+use Rattle.task_code.specs.Flat.{Place, MeansExpr, MeanAll, IsSource, DoesStmt, DoesBlock, DoesTail, fill_of}
+use Rattle.task_code.specs.Tasks.{aimed, local_source, set_slots, store_slots, moved_to, Moved, moves, wished_source, wished, Does, IsEnd, where_of}
 use Rattle.task_code.proofs.Meaning.{number_is}
 
 -- ---- names

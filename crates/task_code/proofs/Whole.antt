@@ -1,5 +1,5 @@
 -- The code of a whole program.
-use Rattle.std.proofs.Common.{◌≡◌, ℕ, zero, suc, ◌+◌, ◌<◌, ◌≤◌, ◌⊎◌, inl, inr, List, [], ◌∷◌, ◌++◌, length, drop, get_or, append_assoc, refl, sym, ap, ◌∙◌, subst, arith}
+use Rattle.std.proofs.Common.{◌≡◌, ℕ, zero, suc, ◌+◌, ◌<◌, ◌≤◌, inl, inr, List, [], ◌∷◌, ◌++◌, length, drop, get_or, append_assoc, refl, sym, ap, ◌∙◌, subst, arith}
 use Rattle.std.specs.Prelude.{Some}
 use Rattle.std.proofs.lemmas.List.{append-nil, length-map}
 use Rattle.fut_syntax.specs.declared.tree.Param.{Param}
@@ -9,7 +9,7 @@ use Rattle.fut_syntax.specs.declared.tree.Stmt.{Stmt}
 use Rattle.fut_syntax.specs.Trees as tree
 use Rattle.fut_syntax.specs.Small.{items_of}
 use Rattle.fut_syntax.specs.Views.{item_tree, params_tree, block_tree, items_tree, program_tree}
-use Rattle.task_machine.specs.Texts.{CellArray, arrays_from, count_cells, tasks_from, cell_arrays, cell_count}
+use Rattle.task_machine.specs.Texts.{CellArray, arrays_from, count_cells, tasks_from}
 use Rattle.task_code.specs.declared.names.Name.{Name}
 use Rattle.task_code.specs.declared.code.Given.{Given}
 use Rattle.task_code.specs.declared.code.TaskCode.{TaskCode}

@@ -1,16 +1,15 @@
 -- Flat code, and what it is of a program.
-use Rattle.std.specs.Prelude.{◌≡◌, ℕ, ◌+◌, ◌≤◌, List, [], ◌∷◌, ◌++◌, slice_get, Option, Some, None, unwrap_or, pos}
+use Rattle.std.specs.Prelude.{◌≡◌, ℕ, ◌+◌, List, [], ◌∷◌, ◌++◌, slice_get, Option, Some, None, pos}
 use Rattle.fut_syntax.specs.Trees as tree
 use Rattle.fut_syntax.specs.Views.{type_tree, items_tree}
 use Rattle.fut_syntax.specs.Small.{items_of}
 use Rattle.fut_check.specs.Items.{IsWellTyped}
 use Rattle.task_machine.specs.Variables.{Slot, Variables, slot_in, size_of}
-use Rattle.task_machine.specs.Texts.{CellArray, TaskText, arrays_from, cell_arrays, cell_count, tasks_of, main_of, find_task, stmts_of}
+use Rattle.task_machine.specs.Texts.{CellArray, TaskText, arrays_from, cell_arrays, cell_count, tasks_of, main_of, find_task}
 use Rattle.task_code.specs.declared.term.Term.{Term, Number}
 use Rattle.task_code.specs.declared.names.Name.{Name}
 use Rattle.task_code.specs.declared.instruction.Fill.{Fill}
 use Rattle.task_code.specs.declared.instruction.Fill.TheVariants as fill
-use Rattle.task_code.specs.declared.instruction.Target.{Target}
 use Rattle.task_code.specs.declared.instruction.Source.{Source}
 use Rattle.task_code.specs.declared.instruction.Source.TheVariants as source
 use Rattle.task_code.specs.declared.instruction.Instruction.{Instruction}

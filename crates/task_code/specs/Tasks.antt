@@ -5,7 +5,7 @@ use Rattle.fut_base.specs.declared.record.Value.TheVariants.{Int, Fut}
 use Rattle.fut_base.specs.declared.record.Entry.{Entry}
 use Rattle.fut_base.specs.declared.event.Event.{Event}
 use Rattle.fut_base.specs.declared.event.Action.{Action}
-use Rattle.fut_base.specs.declared.event.Action.TheVariants.{Reads, Writes, Spawns, Creates, Syncs, Gets, Ends}
+use Rattle.fut_base.specs.declared.event.Action.TheVariants.{Reads, Spawns, Creates, Syncs, Gets, Ends}
 use Rattle.fut_base.specs.Events.{event_of}
 use Rattle.fut_base.specs.Listed.{Listed}
 use Rattle.fut_syntax.specs.Trees as tree
@@ -17,8 +17,7 @@ use Rattle.task_machine.specs.State as state
 use Rattle.task_machine.specs.State.{TaskState, element_of, read_of, write_of, get_of, end_of, wish_of}
 use Rattle.task_machine.specs.Runs.{Steps, StandsWithin, GoesOn, IsStateAfter}
 use Rattle.task_types.specs.Typed.{IsTypedState, any_future}
-use Rattle.task_code.specs.declared.term.Term.{Term, Number}
-use Rattle.task_code.specs.declared.names.Name.{Name}
+use Rattle.task_code.specs.declared.term.Term.{Number}
 use Rattle.task_code.specs.declared.code.TaskCode.{TaskCode}
 use Rattle.task_code.specs.declared.instruction.Fill.{Fill}
 use Rattle.task_code.specs.declared.instruction.Fill.TheVariants as fill

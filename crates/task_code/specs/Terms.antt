@@ -1,5 +1,5 @@
 -- What expressions with numbered variables give.
-use Rattle.std.specs.Prelude.{◌≡◌, ℕ, List, [], ◌∷◌, flat_map, ℤ, pos}
+use Rattle.std.specs.Prelude.{◌≡◌, List, flat_map, ℤ}
 use Rattle.std.specs.Int.{w64, int_wrapping_neg}
 use Rattle.fut_base.specs.declared.record.Value.{Value}
 use Rattle.fut_base.specs.declared.record.Value.TheVariants.{Int}

@@ -1,11 +1,11 @@
-use Rattle.std.proofs.Common.{◌≡◌, ◌≤◌, length, ap, sym, ◌∙◌, refl, subst, arith}
+use Rattle.std.proofs.Common.{◌≡◌, ap, sym, ◌∙◌, subst, arith}
 use Rattle.std.specs.Prelude.{IfOk}
-use Rattle.fut_syntax.specs.declared.tree.Stmt.{Stmt, If, While}
+use Rattle.fut_syntax.specs.declared.tree.Stmt.{If, While}
 use Rattle.fut_syntax.specs.declared.tree.Tail.{Else}
 use Rattle.fut_syntax.specs.Trees as tree
 use Rattle.fut_syntax.specs.Views.{expr_tree, stmt_tree, block_tree, tail_tree}
 use Rattle.fut_syntax.proofs.Made.{if_tree, while_tree, else_tree}
-use Rattle.task_code.specs.Flat.{place_of, DoesBlock, DoesTail, Grows}
+use Rattle.task_code.specs.Flat.{place_of, DoesTail, Grows}
 use Rattle.task_code.proofs.Growing.{grows_not, grows_on, block_begun, block_longer, block_done, if_added, while_added}
 use Rattle.task_code.proofs.compile.+statements.Goals as goal
 

@@ -1,4 +1,4 @@
-use Rattle.std.proofs.Common.{◌≡◌, ◌<◌, ap, sym, ◌∙◌, subst, arith, rules, w64, to_z, of_z}
+use Rattle.std.proofs.Common.{◌≡◌, ap, sym, ◌∙◌, subst, arith, rules, w64, to_z, of_z}
 use Rattle.std.specs.Prelude.{Some}
 use Rattle.task_machine.specs.Values.{index_of}
 use Rattle.task_code.specs.Frames.{shape_size, slot_for}

@@ -1,4 +1,4 @@
-use Rattle.std.proofs.Common.{◌≡◌, ◌++◌, drop, take}
+use Rattle.std.proofs.Common.{◌≡◌, take}
 use Rattle.task_code.specs.Terms.{values_by}
 use Rattle.task_code.proofs.steps.values_of.Given as goal
 

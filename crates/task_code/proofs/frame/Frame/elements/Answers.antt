@@ -1,7 +1,6 @@
-use Rattle.std.proofs.Common.{◌≡◌, ◌<◌, ◌+◌, ◌≤◌, length, take, drop, ap, sym, ◌∙◌, arith}
+use Rattle.std.proofs.Common.{◌≡◌, length, take, drop, ap, sym, ◌∙◌, arith}
 use Rattle.std.specs.Prelude.{slice_get, Some, None}
-use Rattle.task_machine.specs.Variables.{One, Many}
-use Rattle.task_code.specs.Frames.{Held, slot_in_place, zero_slot, elements_of, shape_size}
+use Rattle.task_code.specs.Frames.{Held, slot_in_place, elements_of, shape_size}
 use Rattle.task_code.proofs.Laying.{lies_in, one_there, elements_there, slot_past}
 use Rattle.task_code.proofs.frame.Frame.elements.Goals as goal
 

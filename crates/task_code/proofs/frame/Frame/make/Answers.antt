@@ -1,6 +1,5 @@
 use Rattle.std.proofs.Common.{◌≡◌, ◌+◌, ◌≤◌, ◌++◌, List, ◌∷◌, [], length, replicate, ap, sym, ◌∙◌, subst, arith, length-append}
 use Rattle.std.proofs.lemmas.List.{length-replicate}
-use Rattle.fut_base.specs.declared.record.Value.{Value}
 use Rattle.task_code.specs.declared.frame.Shape.TheVariants as shape
 use Rattle.task_code.specs.declared.frame.Place.{Place}
 use Rattle.task_code.specs.Frames.{AreLaid, slots_of, rooms_of, zero_value}

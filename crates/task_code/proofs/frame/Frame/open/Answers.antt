@@ -1,10 +1,10 @@
-use Rattle.std.proofs.Common.{◌≡◌, ◌<◌, ◌+◌, ◌≤◌, List, length, min, refl, ap, sym, subst, ◌∙◌, arith}
+use Rattle.std.proofs.Common.{◌≡◌, List, length, min, refl, ap, sym, subst, ◌∙◌, arith}
 use Rattle.std.specs.Prelude.{slice_get, slice_set, slice_index, Some, None}
 use Rattle.fut_base.specs.declared.record.Value.{Value}
 use Rattle.task_machine.specs.Variables.{Many}
 use Rattle.task_code.specs.declared.frame.Shape.TheVariants as shape
 use Rattle.task_code.specs.Frames.{Held, slots_of}
-use Rattle.task_code.proofs.Laying.{lies_in, laid_reshaped, rooms_reshaped, is_opened, none_opened}
+use Rattle.task_code.proofs.Laying.{laid_reshaped, rooms_reshaped, is_opened, none_opened}
 use Rattle.task_code.proofs.frame.Frame.open.Goals as goal
 
 pub invariant_of-self : goal.invariant_of-self

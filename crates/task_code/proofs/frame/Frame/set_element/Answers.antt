@@ -1,7 +1,6 @@
-use Rattle.std.proofs.Common.{◌≡◌, ◌<◌, ◌+◌, ◌≤◌, length, take, drop, ap, sym, subst, ◌∙◌, arith}
+use Rattle.std.proofs.Common.{◌≡◌, length, ap, sym, subst, ◌∙◌, arith}
 use Rattle.std.specs.Prelude.{slice_get, slice_set, Some, None}
-use Rattle.task_machine.specs.Variables.{One, Many}
-use Rattle.task_code.specs.Frames.{Held, slot_in_place, zero_slot, with_element, slots_of, shape_size}
+use Rattle.task_code.specs.Frames.{Held, slot_in_place, with_element, slots_of, shape_size}
 use Rattle.task_code.proofs.Laying.{lies_in, element_is_set, elements_there, many_is_kept, one_is_kept, set_nothing}
 use Rattle.task_code.proofs.frame.Frame.set_element.Goals as goal
 

@@ -1,9 +1,9 @@
-use Rattle.std.proofs.Common.{◌≡◌, ◌<◌, ◌+◌, ◌≤◌, length, refl, ap, sym, subst, ◌∙◌, arith}
+use Rattle.std.proofs.Common.{◌≡◌, length, refl, ap, sym, subst, ◌∙◌, arith}
 use Rattle.std.specs.Prelude.{slice_get, slice_set, Some, None}
 use Rattle.std.proofs.Math.ListN.{length-set}
 use Rattle.task_machine.specs.Variables.{One}
 use Rattle.task_code.specs.declared.frame.Shape.TheVariants as shape
-use Rattle.task_code.specs.Frames.{Held, slots_of, AreLaid}
+use Rattle.task_code.specs.Frames.{Held, AreLaid}
 use Rattle.task_code.proofs.Laying.{lies_in, one_is_set, laid_reshaped, rooms_reshaped, set_nothing}
 use Rattle.task_code.proofs.frame.Frame.set_one.Goals as goal
 

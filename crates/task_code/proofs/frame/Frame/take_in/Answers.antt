@@ -1,4 +1,4 @@
-use Rattle.std.proofs.Common.{◌≡◌, length, ap, ◌∙◌, sym, arith}
+use Rattle.std.proofs.Common.{◌∙◌, sym}
 use Rattle.std.specs.Prelude.{slice_index}
 use Rattle.task_code.proofs.Laying.{taken_in, not_taken}
 use Rattle.task_code.proofs.frame.Frame.take_in.Goals as goal

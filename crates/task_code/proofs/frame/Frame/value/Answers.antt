@@ -1,4 +1,4 @@
-use Rattle.std.proofs.Common.{◌≡◌, ◌<◌, ◌≤◌, length, take, drop, arith, ap, sym, ◌∙◌}
+use Rattle.std.proofs.Common.{◌≡◌, length, take, drop, arith, ap, sym, ◌∙◌}
 use Rattle.std.specs.Prelude.{slice_get, Some, None}
 use Rattle.task_machine.specs.Variables.{One, Many, value_of}
 use Rattle.task_code.specs.Frames.{Held, slot_in_place, zero_slot}

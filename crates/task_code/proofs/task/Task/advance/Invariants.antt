@@ -1,4 +1,4 @@
-use Rattle.std.proofs.Common.{◌≡◌, ◌≤◌, false, List, ℕ}
+use Rattle.std.proofs.Common.{◌≡◌, false, List}
 use Rattle.fut_base.specs.declared.record.Value.{Value}
 use Rattle.fut_syntax.specs.Trees as tree
 use Rattle.task_machine.specs.State.{TaskState}

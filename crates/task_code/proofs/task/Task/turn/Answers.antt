@@ -1,5 +1,5 @@
 use Rattle.std.proofs.Common.{◌≡◌, ap, sym, ◌∙◌, subst}
-use Rattle.std.specs.Prelude.{Some, None}
+use Rattle.std.specs.Prelude.{Some}
 use Rattle.std.specs.Option.{option_copied}
 use Rattle.task_code.specs.Frames.{Held}
 use Rattle.task_code.specs.Tasks.{TaskNow, IsSomeTask, IsStill, instruction_of, moves, wished}
