@@ -20,7 +20,7 @@ use Rattle.task_types.specs.Running.{Passes}
 use Rattle.task_types.proofs.Running.{steps_fit, children_fit}
 use Rattle.task_code.specs.Flat.{Compiled, TaskNow, IsCodeOf, IsTaskOf}
 use Rattle.run_replay.specs.declared.line.Line.{Line}
-use Rattle.run_replay.specs.Ready.{ready_by, ready_past, ready_of}
+use Rattle.run_laws.specs.Ready.{ready_by, ready_past, ready_of}
 use Rattle.run_replay.specs.Replays.{ReplayNow, IsLineOf, AreLinesOf, IsReplayOf, Fed, ActsAs, Begins, AreBegun, Takes, CanAct, creates_by}
 use Rattle.run_replay.proofs.Lining.{task_of_line, set_line, add_lines, set_length, some_same}
 

@@ -1,3 +1,4 @@
+pub mod Outcome
 pub mod Readying
 pub mod Lining
 pub mod Acting

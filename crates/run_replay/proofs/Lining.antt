@@ -116,3 +116,14 @@ stands_still code old lines t k P h m x =
       few = (let e = kept_length code old.lines lines t k in let f = x.few in omega (arith, e, f));
       made = x.made;
     }
+
+-- a place of a list has an item
+pub item_at : {X : Type 0} (xs : List X) (i : ℕ) → i < length xs → (x : X) × (slice_get xs i ≡ Some x)
+item_at [] i lt = absurd (omega arith)
+item_at (x ∷ xs) zero lt = (x, refl)
+item_at (x ∷ xs) (suc i) lt = item_at xs i (omega arith)
+
+pub same_at : (code : Compiled) (xs ys : List Line) (t : ℕ) → t < length xs → ys ≡ xs → KeepsLineAt code xs ys t
+same_at code xs ys t lt is =
+    let x = item_at xs t lt in
+    record { before = x.0; after = x.0; present = x.1; is = is ∙ sym (set_same xs t x.0 x.1); keeps = same_line code x.0 }

@@ -4,7 +4,8 @@ use Rattle.std.specs.Prelude.{Some, slice_get, reverse}
 use Rattle.std.specs.List.{insert, remove}
 use Rattle.std.proofs.lemmas.List.{reverse-append, append_assoc}
 use Rattle.std.proofs.lemmas.Bool.{false≢true}
-use Rattle.run_replay.specs.Ready.{put_before, without, IsLastPlace, IsAbsent}
+use Rattle.run_laws.specs.Ready.{put_before, without}
+use Rattle.run_replay.specs.Ready.{IsLastPlace, IsAbsent}
 
 abbrev has : ℕ → List ℕ → Bool
 has t [] = false
@@ -12,21 +13,21 @@ has t (x ∷ xs) = (x == t) || has t xs
 
 -- ---- in front of, and behind, a part that has the task
 
-put_far_at : (b : Bool) (child x t : ℕ) (xs ys : List ℕ) → (b || has t xs) ≡ false → (has t xs ≡ false → put_before child t (xs ++ ys) ≡ xs ++ put_before child t ys)
-    → (if b then child ∷ x ∷ (xs ++ ys) else x ∷ put_before child t (xs ++ ys)) ≡ x ∷ (xs ++ put_before child t ys)
+put_far_at : (b : Bool) (child x t : ℕ) (xs ys : List ℕ) → (b || has t xs) ≡ false → (has t xs ≡ false → put_before t child (xs ++ ys) ≡ xs ++ put_before t child ys)
+    → (if b then child ∷ x ∷ (xs ++ ys) else x ∷ put_before t child (xs ++ ys)) ≡ x ∷ (xs ++ put_before t child ys)
 put_far_at true child x t xs ys h ih = absurd (false≢true (sym h))
 put_far_at false child x t xs ys h ih = ap (λ l. x ∷ l) (ih h)
 
-put_far : (child t : ℕ) (xs ys : List ℕ) → has t xs ≡ false → put_before child t (xs ++ ys) ≡ xs ++ put_before child t ys
+put_far : (child t : ℕ) (xs ys : List ℕ) → has t xs ≡ false → put_before t child (xs ++ ys) ≡ xs ++ put_before t child ys
 put_far child t [] ys h = refl
 put_far child t (x ∷ xs) ys h = put_far_at (x == t) child x t xs ys h (put_far child t xs ys)
 
-put_near_at : (b : Bool) (child x t : ℕ) (xs ys : List ℕ) → (b || has t xs) ≡ true → (has t xs ≡ true → put_before child t (xs ++ ys) ≡ put_before child t xs ++ ys)
-    → (if b then child ∷ x ∷ (xs ++ ys) else x ∷ put_before child t (xs ++ ys)) ≡ (if b then child ∷ x ∷ xs else x ∷ put_before child t xs) ++ ys
+put_near_at : (b : Bool) (child x t : ℕ) (xs ys : List ℕ) → (b || has t xs) ≡ true → (has t xs ≡ true → put_before t child (xs ++ ys) ≡ put_before t child xs ++ ys)
+    → (if b then child ∷ x ∷ (xs ++ ys) else x ∷ put_before t child (xs ++ ys)) ≡ (if b then child ∷ x ∷ xs else x ∷ put_before t child xs) ++ ys
 put_near_at true child x t xs ys h ih = refl
 put_near_at false child x t xs ys h ih = ap (λ l. x ∷ l) (ih h)
 
-put_near : (child t : ℕ) (xs ys : List ℕ) → has t xs ≡ true → put_before child t (xs ++ ys) ≡ put_before child t xs ++ ys
+put_near : (child t : ℕ) (xs ys : List ℕ) → has t xs ≡ true → put_before t child (xs ++ ys) ≡ put_before t child xs ++ ys
 put_near child t [] ys h = absurd (false≢true h)
 put_near child t (x ∷ xs) ys h = put_near_at (x == t) child x t xs ys h (put_near child t xs ys)
 
@@ -97,27 +98,27 @@ has_at t [] i h = cc
 has_at t (x ∷ xs) zero h = (let same : x ≡ t = cc in subst (λ b. (b || has t xs) ≡ true) (sym (same_is x t same)) refl)
 has_at t (x ∷ xs) (suc i) h = ap (λ b. (x == t) || b) (has_at t xs i h) ∙ or_true (x == t)
 
-put_self : (child t : ℕ) → put_before child t (t ∷ []) ≡ child ∷ t ∷ []
+put_self : (child t : ℕ) → put_before t child (t ∷ []) ≡ child ∷ t ∷ []
 put_self child t = subst (λ b. (if b then child ∷ t ∷ [] else t ∷ []) ≡ child ∷ t ∷ []) (sym (same_is t t refl)) refl
 
 out_self : (t : ℕ) → without t (t ∷ []) ≡ []
 out_self t = subst (λ b. (if b then [] else t ∷ []) ≡ []) (sym (same_is t t refl)) refl
 
-pub put_turned : (child t : ℕ) (xs : List ℕ) (i : ℕ) → IsLastPlace xs t i → reverse (insert xs (suc i) child) ≡ put_before child t (reverse xs)
+pub put_turned : (child t : ℕ) (xs : List ℕ) (i : ℕ) → IsLastPlace xs t i → reverse (insert xs (suc i) child) ≡ put_before t child (reverse xs)
 put_turned child t [] i h = (let e = h.0 in cc)
 put_turned child t (x ∷ xs) zero h =
     let same : x ≡ t = (let e = h.0 in cc) in
     let none = has_turned t xs ∙ has_not t xs (λ j y e. h.1 (suc j) y (omega arith) e) in
-    subst (λ z. reverse (z ∷ child ∷ xs) ≡ put_before child t (reverse (z ∷ xs))) (sym same)
+    subst (λ z. reverse (z ∷ child ∷ xs) ≡ put_before t child (reverse (z ∷ xs))) (sym same)
     (turned t (child ∷ xs)
     ∙ (ap (λ l. l ++ t ∷ []) (turned child xs)
     ∙ (append_assoc (reverse xs) (child ∷ []) (t ∷ [])
-    ∙ (ap (λ l. reverse xs ++ l) (sym (put_self child t)) ∙ (sym (put_far child t (reverse xs) (t ∷ []) none) ∙ ap (put_before child t) (sym (turned t xs)))))))
+    ∙ (ap (λ l. reverse xs ++ l) (sym (put_self child t)) ∙ (sym (put_far child t (reverse xs) (t ∷ []) none) ∙ ap (put_before t child) (sym (turned t xs)))))))
 put_turned child t (x ∷ xs) (suc i) h =
     let some = has_turned t xs ∙ has_at t xs i h.0 in
     turned x (insert xs (suc i) child)
     ∙ (ap (λ l. l ++ x ∷ []) (put_turned child t xs i (h.0, λ j y lt e. h.1 (suc j) y (omega (arith, lt)) e))
-    ∙ (sym (put_near child t (reverse xs) (x ∷ []) some) ∙ ap (put_before child t) (sym (turned x xs))))
+    ∙ (sym (put_near child t (reverse xs) (x ∷ []) some) ∙ ap (put_before t child) (sym (turned x xs))))
 
 pub out_turned : (t : ℕ) (xs : List ℕ) (i : ℕ) → IsLastPlace xs t i → reverse (remove xs i) ≡ without t (reverse xs)
 out_turned t [] i h = (let e = h.0 in cc)
@@ -136,11 +137,11 @@ out_turned t (x ∷ xs) (suc i) h =
     ∙ (ap (λ l. l ++ x ∷ []) (out_turned t xs i (h.0, λ j y lt e. h.1 (suc j) y (omega (arith, lt)) e))
     ∙ (sym (out_near t (reverse xs) (x ∷ []) some) ∙ ap (without t) (sym (turned x xs))))
 
-put_none_at : (b : Bool) (child x t : ℕ) (xs : List ℕ) → (b || has t xs) ≡ false → (has t xs ≡ false → put_before child t xs ≡ xs) → (if b then child ∷ x ∷ xs else x ∷ put_before child t xs) ≡ x ∷ xs
+put_none_at : (b : Bool) (child x t : ℕ) (xs : List ℕ) → (b || has t xs) ≡ false → (has t xs ≡ false → put_before t child xs ≡ xs) → (if b then child ∷ x ∷ xs else x ∷ put_before t child xs) ≡ x ∷ xs
 put_none_at true child x t xs h ih = absurd (false≢true (sym h))
 put_none_at false child x t xs h ih = ap (λ l. x ∷ l) (ih h)
 
-put_none : (child t : ℕ) (xs : List ℕ) → has t xs ≡ false → put_before child t xs ≡ xs
+put_none : (child t : ℕ) (xs : List ℕ) → has t xs ≡ false → put_before t child xs ≡ xs
 put_none child t [] h = refl
 put_none child t (x ∷ xs) h = put_none_at (x == t) child x t xs h (put_none child t xs)
 
@@ -152,7 +153,7 @@ out_none : (t : ℕ) (xs : List ℕ) → has t xs ≡ false → without t xs ≡
 out_none t [] h = refl
 out_none t (x ∷ xs) h = out_none_at (x == t) x t xs h (out_none t xs)
 
-pub put_absent : (child t : ℕ) (xs : List ℕ) → IsAbsent xs t → reverse xs ≡ put_before child t (reverse xs)
+pub put_absent : (child t : ℕ) (xs : List ℕ) → IsAbsent xs t → reverse xs ≡ put_before t child (reverse xs)
 put_absent child t xs h = sym (put_none child t (reverse xs) (has_turned t xs ∙ has_not t xs h))
 
 pub out_absent : (t : ℕ) (xs : List ℕ) → IsAbsent xs t → reverse xs ≡ without t (reverse xs)

@@ -19,9 +19,8 @@ use Rattle.task_types.specs.Typed.{ArgsFit, ActionFits, any_future}
 use Rattle.task_code.specs.Flat.{Compiled, TaskNow, IsCodeOf, IsTaskOf, Wishes}
 use Rattle.task_code.specs.declared.task.Wish as asked
 use Rattle.task_code.specs.declared.task.Wish.TheVariants as wish
-use Rattle.run_laws.specs.Laws.{IsFirst}
+use Rattle.run_laws.specs.Ready.{ready_by, ready_of}
 use Rattle.run_replay.specs.declared.line.Line.{Line}
-use Rattle.run_replay.specs.Ready.{ready_by, ready_of}
 
 -- what a run shows: its tasks by number, the cells, the tasks that have not ended, the first in English order last, and how many
 -- entries, creates and strands were made

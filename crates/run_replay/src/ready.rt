@@ -1,7 +1,8 @@
 //! The tasks that have not ended, the first in English order last.
 ghost use Rattle.std.specs.Prelude.{◌≡◌, reverse, MatchOption, OnErr, OnOk};
 ghost use Rattle.fut_base.specs.Events.{action_of};
-ghost use Rattle.run_replay.specs.Ready.{IsAbsent, IsLastPlace, put_before, ready_by, without};
+ghost use Rattle.run_laws.specs.Ready.{put_before, ready_by, without};
+ghost use Rattle.run_replay.specs.Ready.{IsAbsent, IsLastPlace};
 
 use fut_base::list::NoMemory;
 use fut_base::record::Act;
@@ -22,7 +23,7 @@ fn place_of(ready: &[u32], task: u32) -> Option<usize>
 
 /// Puts a child behind its maker.
 fn put(ready: &mut Vec<u32>, task: u32, child: u32) -> Result<(), NoMemory>
-    ensures put { OnOk result (reverse ready.new.items ≡ put_before child task (reverse ready.old.items)) }
+    ensures put { OnOk result (reverse ready.new.items ≡ put_before task child (reverse ready.old.items)) }
     ensures unchanged { OnErr result (ready.new.items ≡ ready.old.items) }
 {
     if let Some(place) = place_of(ready, task) {
