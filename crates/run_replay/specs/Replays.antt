@@ -1,5 +1,5 @@
 -- A run beside the machine of the definitions.
-use Rattle.std.specs.Prelude.{◌≡◌, ℕ, ◌+◌, ◌*◌, ◌<◌, ◌≤◌, Bool, true, false, not, ◌⊎◌, List, [], ◌∷◌, ◌++◌, length, reverse, slice_get, slice_set, Option, Some, None, is_some, IsSome, ℤ, vec_len, vec_capacity}
+use Rattle.std.specs.Prelude.{◌≡◌, ℕ, ◌+◌, ◌*◌, ◌<◌, ◌≤◌, Bool, true, false, not, ◌&&◌, ◌⊎◌, List, [], ◌∷◌, ◌++◌, length, reverse, slice_get, slice_set, Option, Some, None, is_some, IsSome, ℤ, vec_len, vec_capacity}
 use Rattle.fut_base.specs.declared.record.Value.{Value}
 use Rattle.fut_base.specs.declared.event.Event.{Event}
 use Rattle.fut_base.specs.declared.event.Action.{Action}
@@ -131,6 +131,18 @@ RunsAt lines t = (line : Line) × (slice_get lines t ≡ Some line) × (line.tas
 abbrev pub is_running : Option Line → Bool
 is_running None = false
 is_running (Some line) = not (is_some line.value)
+
+-- the value with which a task has ended
+abbrev pub line_value : Option Line → Option Value
+line_value None = None
+line_value (Some line) = line.value
+
+abbrev pub value_at : List Line → ℕ → Option Value
+value_at lines t = line_value (slice_get lines t)
+
+abbrev pub all_ended : List Line → List ℕ → Bool
+all_ended lines [] = true
+all_ended lines (t ∷ ts) = is_some (value_at lines t) && all_ended lines ts
 
 -- the line of a task that begins
 pub record Begins (code : Compiled) (which : ℕ) (args : List Value) (strand future : ℕ) (line : Line) : Type 0 where

@@ -1,13 +1,16 @@
 //! A run: its events one after the other.
-ghost use Rattle.std.specs.Prelude.{◌≡◌, ◌<◌, ◌≤◌, ◌+◌, ◌*◌, ◌^◌, ℕ, List, [], length, slice_get, Some, None, IfOk, OnErr, OnOk, MatchOption};
+ghost use Rattle.std.specs.Prelude.{◌≡◌, ◌<◌, ◌≤◌, ◌+◌, ◌*◌, ◌^◌, ℕ, ℤ, ◌⊎◌, List, [], length, slice_get, Some, None, IfOk, OnErr, OnOk, MatchOption};
 ghost use Rattle.fut_base.specs.declared.event.Event.{Event};
 ghost use Rattle.fut_base.specs.Events.{action_of, event_of};
 ghost use Rattle.fut_syntax.specs.Trees as tree;
 ghost use Rattle.fut_check.specs.Items.{IsWellTyped};
+ghost use Rattle.fut_base.specs.declared.record.Value.{Value as Carried};
+ghost use Rattle.task_machine.specs.State.{TaskState, ToCreate, ToSpawn, wish_of};
+ghost use Rattle.task_machine.specs.Runs.{StandsAt};
 ghost use Rattle.task_machine.specs.Machine.{Machine, Running, opening, EachEnded};
 ghost use Rattle.task_code.specs.Flat.{Compiled, IsCodeOf, Wishes};
 ghost use Rattle.run_laws.specs.Laws.{IsFirst};
-ghost use Rattle.run_replay.specs.Replays.{is_running, CanAct, IsBarred, IsEvent, IsFree, IsReplayOf, IsSomeReplay, RunsAt, StandsStill, Takes};
+ghost use Rattle.run_replay.specs.Replays.{all_ended, is_running, value_at, CanAct, IsBarred, IsEvent, IsFree, IsReplayOf, IsSomeReplay, RunsAt, StandsStill, Takes};
 
 use crate::copies::copy_of;
 use crate::line::{begin, begin_child, Line};
@@ -78,7 +81,11 @@ impl Replay {
     pub fn next_ready(&self) -> Option<u32>
         ensures { (P : tree.Program) (code : Compiled) (h : List Event) (m : Machine) → IsReplayOf P code h self.now m → MatchOption result (EachEnded m.tasks) (λ t. (r : Running) × IsFirst h m t r) }
     {
-        self.ready.last().copied()
+        let count = self.ready.len();
+        if count == 0 {
+            return None;
+        }
+        Some(self.ready[count - 1])
     }
 
     /// How many entries were made.
@@ -109,6 +116,115 @@ impl Replay {
     {
         let line = &mut self.lines[task as usize];
         line.task.advance(code, MOST_STEPS)
+    }
+
+    /// Whether each of these tasks has ended.
+    fn have_ended(&self, tasks: &[u32]) -> bool
+        ensures { result ≡ all_ended self.now.lines tasks.now }
+    {
+        for task in tasks {
+            if self.value_of(*task).is_none() {
+                return false;
+            }
+        }
+        true
+    }
+
+    /// The value with which a task has ended.
+    fn value_of(&self, task: u32) -> Option<Value>
+        ensures { result ≡ value_at self.now.lines task }
+    {
+        match self.lines.get(task as usize) {
+            Some(line) => line.value,
+            None => None,
+        }
+    }
+
+    /// What a wish waits for: the children of its task, as `Some(None)`, or a future.
+    fn waits(&self, task: u32, wish: Wish) -> Option<Option<u32>>
+        requires exists { task < length self.now.lines }
+        ensures { (P : tree.Program) (code : Compiled) (h : List Event) (m : Machine) (r : Running) → IsReplayOf P code h self.now m → slice_get m.tasks task ≡ Some r → MatchOption result (IsFree m r wish) (λ future. IsBarred m r wish future) }
+    {
+        match wish {
+            Wish::Sync => {
+                if self.have_ended(self.lines[task as usize].block.as_slice()) {
+                    None
+                } else {
+                    Some(None)
+                }
+            }
+            Wish::Get { future } => match self.value_of(future) {
+                Some(_) => None,
+                None => Some(Some(future)),
+            },
+            Wish::Read { .. }
+            | Wish::Write { .. }
+            | Wish::Spawn { .. }
+            | Wish::Create { .. }
+            | Wish::End { .. }
+            | Wish::Long => None,
+        }
+    }
+
+    /// The arguments of the task that a task wishes to begin.
+    fn args(&self, code: &Code, task: u32) -> Result<Args, NoMemory>
+        requires known { IsSomeReplay code.now self.now }
+        requires running { RunsAt self.now.lines task }
+        ensures { (P : tree.Program) (h : List Event) (m : Machine) (r : Running) (stop : TaskState) (which : ℕ) (args : List Carried) → IsReplayOf P code.now h self.now m → slice_get m.tasks task ≡ Some r → StandsAt r.state stop → (wish_of P stop ≡ ToSpawn which args) ⊎ (wish_of P stop ≡ ToCreate which args) → IfOk result (λ a. a.items ≡ args) }
+    {
+        self.lines[task as usize].task.args(self.alloc, code)
+    }
+
+    /// The act that answers a wish which waits for nothing.
+    fn act_of(&self, code: &Code, task: u32, wish: Wish) -> Result<Act, NoMemory>
+        requires known { IsSomeReplay code.now self.now }
+        requires running { RunsAt self.now.lines task }
+        requires event { IsEvent wish }
+        requires few { length self.now.lines < 2 ^ 32 }
+        requires made { self.now.strands + 2 ≤ 2 ^ 32 }
+        ensures { (P : tree.Program) (h : List Event) (m : Machine) (r : Running) → IsReplayOf P code.now h self.now m → slice_get m.tasks task ≡ Some r → Wishes P 1000000 r.state wish → IsFree m r wish → IfOk result (λ act. CanAct P m r (action_of act)) }
+    {
+        let strand = self.strands as u32;
+        let child = self.lines.len() as u32;
+        match wish {
+            Wish::Read { cell } => Ok(Act::Read {
+                cell,
+                value: self.cell(cell),
+            }),
+            Wish::Write { cell, value } => Ok(Act::Write { cell, value }),
+            Wish::Spawn { which } => Ok(Act::Spawn {
+                code: which,
+                child,
+                kid: strand,
+                cont: strand + 1,
+                args: self.args(code, task)?,
+            }),
+            Wish::Create { which } => Ok(Act::Create {
+                code: which,
+                child,
+                kid: strand,
+                cont: strand + 1,
+                args: self.args(code, task)?,
+            }),
+            Wish::Sync => Ok(Act::Sync { strand }),
+            Wish::Get { future } => Ok(Act::Get {
+                future,
+                value: self.value_of(future).unwrap_or(Value::Int(0)),
+                strand,
+            }),
+            Wish::End { value } => Ok(Act::End { value }),
+            Wish::Long => unreachable!(),
+        }
+    }
+
+    /// The value of a cell; 0 where there is no such cell.
+    fn cell(&self, cell: u32) -> i64
+        ensures { (value : ℤ) → slice_get self.now.cells cell ≡ Some value → result ≡ value }
+    {
+        match self.cells.get(cell as usize) {
+            Some(value) => *value,
+            None => 0,
+        }
     }
 
     /// Takes an act of a task.
