@@ -15,7 +15,7 @@ use Rattle.task_code.specs.Flat.{Compiled, Wishes}
 use Rattle.task_code.specs.declared.task.Wish as asked
 use Rattle.task_code.specs.declared.task.Wish.TheVariants as wish
 use Rattle.run_replay.specs.declared.line.Line.{Line}
-use Rattle.run_replay.specs.Replays.{ReplayNow, IsLineOf, AreLinesOf, IsReplayOf, CanAct, IsFree, IsBarred, value_at, all_ended}
+use Rattle.run_replay.specs.Replays.{ReplayNow, IsLineOf, AreLinesOf, IsReplayOf, CanAct, IsFree, IsBarred, value_at, HaveEnded, RunsStill}
 use Rattle.run_laws.proofs.Stuck.{ReadsBelow, wish_below, cells_from, replicate_length}
 use Rattle.run_laws.proofs.Typed.{well_typed_has_cells}
 use Rattle.run_replay.proofs.Lining.{line_of_task, count_lines, some_same, item_at}
@@ -31,27 +31,18 @@ value_is P code (x ∷ xs) (r ∷ rs) (suc t) h = value_is P code xs rs t h.1
 pub value_of_task : (P : tree.Program) (code : Compiled) (h : List Event) (now : ReplayNow) (m : Machine) (t : ℕ) → IsReplayOf P code h now m → value_at now.lines t ≡ ended_with m t
 value_of_task P code h now m t x = value_is P code now.lines m.tasks t x.lines
 
-both : (a b : Bool) → (a && b) ≡ true → (a ≡ true) × (b ≡ true)
-both true true h = (refl, refl)
-both true false h = absurd (false≢true h)
-both false b h = absurd (false≢true h)
-
-both_true : (a b : Bool) → a ≡ true → b ≡ true → (a && b) ≡ true
-both_true true true h k = refl
-both_true true false h k = absurd (false≢true k)
-both_true false b h k = absurd (false≢true h)
-
 module _ (P : tree.Program) (code : Compiled) (h : List Event) (now : ReplayNow) (m : Machine) (x : IsReplayOf P code h now m) where
-  pub all_have : (ts : List ℕ) → all_ended now.lines ts ≡ true → AllHaveEnded m ts
+  pub all_have : (ts : List ℕ) → HaveEnded now.lines ts → AllHaveEnded m ts
   all_have [] e = tt
   all_have (t ∷ ts) e =
-      let b = both (is_some (value_at now.lines t)) (all_ended now.lines ts) e in
-      (ap (λ (o : Option Value). is_some o) (sym (value_of_task P code h now m t x)) ∙ b.0, all_have ts b.1)
+      (ap (λ (o : Option Value). is_some o) (sym (value_of_task P code h now m t x)) ∙ e 0 t refl, all_have ts (λ i u k. e (suc i) u k))
 
-  pub have_all : (ts : List ℕ) → AllHaveEnded m ts → all_ended now.lines ts ≡ true
-  have_all [] e = refl
-  have_all (t ∷ ts) e =
-      both_true (is_some (value_at now.lines t)) (all_ended now.lines ts) (ap (λ (o : Option Value). is_some o) (value_of_task P code h now m t x) ∙ e.0) (have_all ts e.1)
+  pub not_all : (ts : List ℕ) (i t : ℕ) → slice_get ts i ≡ Some t → value_at now.lines t ≡ None → AllHaveEnded m ts → ⊥
+  not_all [] i t e none all = cc
+  not_all (u ∷ ts) zero t e none all =
+      (let same : u ≡ t = some_same u t e in
+      false≢true (ap (λ (o : Option Value). is_some o) (sym none) ∙ (ap (λ (o : Option Value). is_some o) (value_of_task P code h now m t x) ∙ subst (λ n. IsSome (ended_with m n)) same all.0)))
+  not_all (u ∷ ts) (suc i) t e none all = not_all ts i t e none all.1
 
   -- the block of a line is that of its task
   pub block_is : (t : ℕ) (l : Line) (r : Running) → slice_get now.lines t ≡ Some l → slice_get m.tasks t ≡ Some r → l.block.items ≡ r.block
@@ -60,12 +51,11 @@ module _ (P : tree.Program) (code : Compiled) (h : List Event) (now : ReplayNow)
       let same : found.0 ≡ l = some_same found.0 l (sym found.1 ∙ e) in
       ap (λ (k : Line). k.block.items) (sym same) ∙ found.2.block
 
-  pub free_sync : (t : ℕ) (l : Line) (r : Running) → slice_get now.lines t ≡ Some l → slice_get m.tasks t ≡ Some r → all_ended now.lines l.block.items ≡ true → AllHaveEnded m r.block
+  pub free_sync : (t : ℕ) (l : Line) (r : Running) → slice_get now.lines t ≡ Some l → slice_get m.tasks t ≡ Some r → HaveEnded now.lines l.block.items → AllHaveEnded m r.block
   free_sync t l r e present all = subst (λ b. AllHaveEnded m b) (block_is t l r e present) (all_have l.block.items all)
 
-  pub barred_sync : (t : ℕ) (l : Line) (r : Running) → slice_get now.lines t ≡ Some l → slice_get m.tasks t ≡ Some r → all_ended now.lines l.block.items ≡ false → AllHaveEnded m r.block → ⊥
-  barred_sync t l r e present some all =
-      false≢true (sym some ∙ have_all l.block.items (subst (λ b. AllHaveEnded m b) (sym (block_is t l r e present)) all))
+  pub barred_sync : (t : ℕ) (l : Line) (r : Running) (i : ℕ) → slice_get now.lines t ≡ Some l → slice_get m.tasks t ≡ Some r → RunsStill now.lines l.block.items i → AllHaveEnded m r.block → ⊥
+  barred_sync t l r i e present (c, at, none) all = not_all l.block.items i c at none (subst (λ b. AllHaveEnded m b) (sym (block_is t l r e present)) all)
 
   pub free_get : (f : ℕ) (v : Value) → value_at now.lines f ≡ Some v → IsSome (ended_with m f)
   free_get f v e = ap (λ (o : Option Value). is_some o) (sym (value_of_task P code h now m f x) ∙ e)

@@ -1,5 +1,5 @@
 -- A run beside the machine of the definitions.
-use Rattle.std.specs.Prelude.{◌≡◌, ℕ, ◌+◌, ◌*◌, ◌<◌, ◌≤◌, Bool, true, false, not, ◌&&◌, ◌⊎◌, List, [], ◌∷◌, ◌++◌, length, reverse, slice_get, slice_set, Option, Some, None, is_some, IsSome, ℤ, vec_len, vec_capacity}
+use Rattle.std.specs.Prelude.{◌≡◌, ℕ, ◌+◌, ◌*◌, ◌<◌, ◌≤◌, Bool, true, false, not, ◌⊎◌, List, [], ◌∷◌, ◌++◌, length, reverse, slice_get, slice_set, Option, Some, None, is_some, IsSome, ℤ, vec_len, vec_capacity}
 use Rattle.fut_base.specs.declared.record.Value.{Value}
 use Rattle.fut_base.specs.declared.event.Event.{Event}
 use Rattle.fut_base.specs.declared.event.Action.{Action}
@@ -140,9 +140,13 @@ line_value (Some line) = line.value
 abbrev pub value_at : List Line → ℕ → Option Value
 value_at lines t = line_value (slice_get lines t)
 
-abbrev pub all_ended : List Line → List ℕ → Bool
-all_ended lines [] = true
-all_ended lines (t ∷ ts) = is_some (value_at lines t) && all_ended lines ts
+-- each of these tasks has ended
+abbrev pub HaveEnded : List Line → List ℕ → Type 0
+HaveEnded lines tasks = (i t : ℕ) → slice_get tasks i ≡ Some t → is_some (value_at lines t) ≡ true
+
+-- the one at this place has not
+abbrev pub RunsStill : List Line → List ℕ → ℕ → Type 0
+RunsStill lines tasks i = (t : ℕ) × (slice_get tasks i ≡ Some t) × (value_at lines t ≡ None)
 
 -- the line of a task that begins
 pub record Begins (code : Compiled) (which : ℕ) (args : List Value) (strand future : ℕ) (line : Line) : Type 0 where
@@ -207,42 +211,3 @@ abbrev pub IsBarred : Machine → Running → asked.Wish → Option ℕ → Type
 IsBarred m r wish.Sync o = (o ≡ None) × (AllHaveEnded m r.block → ⊥)
 IsBarred m r (wish.Get future) o = (o ≡ Some future) × (ended_with m future ≡ None)
 IsBarred m r _ o = ⊥
-
--- ---- what a call of `event` answers
-
--- a task of a wish for its children (none) or for a future
-abbrev pub WaitsFor : Wish → Option ℕ → Type 0
-WaitsFor w None = w ≡ ToSync
-WaitsFor w (Some future) = w ≡ ToGet future
-
--- a task stands at a wish that is not allowed
-pub record IsWaiting (P : tree.Program) (m : Machine) (t : ℕ) (future : Option ℕ) : Type 0 where
-  pub task : Running
-  pub stop : TaskState
-  pub running : IsRunning m t task
-  pub stands : StandsAt task.state stop
-  pub wish : WaitsFor (wish_of P stop) future
-  pub barred : IsAllowed P m t → ⊥
-
--- a task wishes to create a future, and the history has as many creates as it may
-pub record IsFull (P : tree.Program) (limits : Limits) (h : List Event) (m : Machine) (t : ℕ) : Type 0 where
-  pub task : Running
-  pub running : IsRunning m t task
-  pub wishes : WishesCreate P task
-  pub many : limits.futures ≤ create_count h
-
--- the cause for which a task makes no further event
-abbrev pub IsSpent : tree.Program → Limits → List Event → Machine → ℕ → Finish → Type 0
-IsSpent P limits h m t finish.Whole = ⊥
-IsSpent P limits h m t (finish.Events b) = (b ≡ limits.events) × (limits.events ≤ length h) × IsAllowed P m t × (IsFull P limits h m t → ⊥)
-IsSpent P limits h m t (finish.Local u) = (u ≡ t) × ((r : Running) × IsRunning m t r × IsOutOfSteps r.state)
-IsSpent P limits h m t (finish.Futures u) = (u ≡ t) × IsFull P limits h m t
-
--- an event is a step that the limits let be made, and the run has made it
-pub record IsMade (P : tree.Program) (code : Compiled) (limits : Limits) (h : List Event) (m : Machine) (t : ℕ) (e : Event) (new : ReplayNow) : Type 0 where
-  pub task : e.task ≡ t
-  pub next : Machine
-  pub step : IsStep P m e next
-  pub few : length h < limits.events
-  pub creates_few : creates e.action ≡ true → create_count h < limits.futures
-  pub run : IsReplayOf P code (h ++ e ∷ []) new next

@@ -7,17 +7,18 @@ ghost use Rattle.fut_check.specs.Items.{IsWellTyped};
 ghost use Rattle.fut_base.specs.declared.record.Value.{Value as Carried};
 ghost use Rattle.task_machine.specs.State.{TaskState, ToCreate, ToSpawn, wish_of};
 ghost use Rattle.task_machine.specs.Runs.{StandsAt};
-ghost use Rattle.task_machine.specs.Machine.{Machine, Running, opening, EachEnded};
+ghost use Rattle.task_machine.specs.Machine.{Machine, Running, opening, EachEnded, IsRunning};
 ghost use Rattle.task_code.specs.Flat.{Compiled, IsCodeOf, Wishes};
 ghost use Rattle.run_laws.specs.Laws.{IsFirst};
-ghost use Rattle.run_replay.specs.Replays.{all_ended, is_running, value_at, CanAct, IsBarred, IsEvent, IsFree, IsReplayOf, IsSomeReplay, RunsAt, StandsStill, Takes};
+ghost use Rattle.run_replay.specs.Next.{Goes, IsBar, IsNext, MayGo};
+ghost use Rattle.run_replay.specs.Replays.{HaveEnded, is_running, RunsStill, value_at, CanAct, IsBarred, IsEvent, IsFree, IsReplayOf, IsSomeReplay, RunsAt, StandsStill, Takes};
 
 use crate::copies::copy_of;
 use crate::line::{begin, begin_child, Line};
 use crate::ready::reorder;
 use crate::table::{commit, creates_of, give_room, strands_of, write};
 use fut_base::list::{Listing, NoMemory};
-use fut_base::record::{Act, Args, Cells, Entry, Value};
+use fut_base::record::{Act, Args, Cells, Entry, Finish, Limits, Value};
 use std::alloc::Global;
 use std::marker::Model;
 use task_code::code::Code;
@@ -25,6 +26,23 @@ use task_code::task::Wish;
 
 /// The greatest number of local steps of a task in a row.
 const MOST_STEPS: u32 = 1_000_000;
+
+/// What the next event of a task is, or why there is none.
+#[derive(Drop)]
+pub enum Next {
+    Made {
+        entry: Entry,
+    },
+    /// It waits for its children, or for this future.
+    Waits {
+        future: Option<u32>,
+    },
+    Idle,
+    Spent {
+        finish: Finish,
+    },
+    NoMemory,
+}
 
 /// A run so far. `ready` has the tasks that have not ended, the first in English order last.
 #[derive(Drop)]
@@ -118,16 +136,18 @@ impl Replay {
         line.task.advance(code, MOST_STEPS)
     }
 
-    /// Whether each of these tasks has ended.
-    fn have_ended(&self, tasks: &[u32]) -> bool
-        ensures { result ≡ all_ended self.now.lines tasks.now }
+    /// The place of one of these tasks that has not ended.
+    fn running_among(&self, tasks: &[u32]) -> Option<usize>
+        ensures { MatchOption result (HaveEnded self.now.lines tasks.now) (λ i. RunsStill self.now.lines tasks.now i) }
     {
-        for task in tasks {
-            if self.value_of(*task).is_none() {
-                return false;
+        let mut left = tasks.len();
+        while left > 0 {
+            left -= 1;
+            if self.value_of(tasks[left]).is_none() {
+                return Some(left);
             }
         }
-        true
+        None
     }
 
     /// The value with which a task has ended.
@@ -147,10 +167,10 @@ impl Replay {
     {
         match wish {
             Wish::Sync => {
-                if self.have_ended(self.lines[task as usize].block.as_slice()) {
-                    None
-                } else {
-                    Some(None)
+                let block = self.lines[task as usize].block.as_slice();
+                match self.running_among(block) {
+                    None => None,
+                    Some(_) => Some(None),
                 }
             }
             Wish::Get { future } => match self.value_of(future) {
@@ -209,7 +229,7 @@ impl Replay {
             Wish::Sync => Ok(Act::Sync { strand }),
             Wish::Get { future } => Ok(Act::Get {
                 future,
-                value: self.value_of(future).unwrap_or(Value::Int(0)),
+                value: self.got(future),
                 strand,
             }),
             Wish::End { value } => Ok(Act::End { value }),
@@ -224,6 +244,16 @@ impl Replay {
         match self.cells.get(cell as usize) {
             Some(value) => *value,
             None => 0,
+        }
+    }
+
+    /// The value of a future; 0 while it has none.
+    fn got(&self, future: u32) -> Value
+        ensures { (value : Carried) → value_at self.now.lines future ≡ Some value → result ≡ value }
+    {
+        match self.value_of(future) {
+            Some(value) => value,
+            None => Value::Int(0),
         }
     }
 
@@ -250,5 +280,73 @@ impl Replay {
         let entry = Entry { task, strand, act };
         commit(&mut self.lines, code, place, ticket, entry, child);
         Ok(own)
+    }
+
+    /// Makes the event of a task whose wish waits for nothing.
+    fn go(&mut self, code: &Code, task: u32, wish: Wish) -> Result<Entry, NoMemory>
+        requires known { IsSomeReplay code.now self.old }
+        requires running { RunsAt self.old.lines task }
+        requires event { IsEvent wish }
+        requires few { self.old.entries < 2 ^ 30 }
+        ensures made { (P : tree.Program) (h : List Event) (m : Machine) (r : Running) → IsReplayOf P code.now h self.old m → IsRunning m task r → Wishes P 1000000 r.state wish → IsFree m r wish → IfOk result (λ entry. Goes P code.now h m task wish (event_of entry) self.new) }
+        ensures unchanged { OnErr result (StandsStill code.now self.old self.new) }
+    {
+        let act = self.act_of(code, task, wish)?;
+        self.take(code, task, act)
+    }
+
+    /// Why a task that wishes this makes no event now.
+    fn bar(&self, limits: Limits, task: u32, wish: Wish) -> Option<Next>
+        requires exists { task < length self.now.lines }
+        ensures { (P : tree.Program) (code : Compiled) (h : List Event) (m : Machine) (r : Running) → IsReplayOf P code h self.now m → IsRunning m task r → Wishes P 1000000 r.state wish → MatchOption result (MayGo limits h m r wish) (λ next. IsBar P limits h m task next) }
+    {
+        if let Wish::Long = wish {
+            return Some(Next::Spent {
+                finish: Finish::Local { task },
+            });
+        }
+        if let Wish::Create { .. } = wish {
+            if self.creates >= limits.futures {
+                return Some(Next::Spent {
+                    finish: Finish::Futures { task },
+                });
+            }
+        }
+        if let Some(future) = self.waits(task, wish) {
+            return Some(Next::Waits { future });
+        }
+        if self.entries >= limits.events {
+            return Some(Next::Spent {
+                finish: Finish::Events {
+                    bound: limits.events,
+                },
+            });
+        }
+        None
+    }
+
+    /// Makes the next event of a task.
+    ///
+    /// `Idle` exactly where the task does not exist or has ended. Else `Spent` with `Local` exactly where it is out of
+    /// steps, with `Futures` exactly where it wishes to create and `limits.futures` creates were made. Else `Waits`
+    /// exactly where its wish is not allowed, with the future of a get, and `Spent` with `Events` exactly where it is
+    /// allowed and `limits.events` entries were made. `NoMemory` is want of memory. Only `Made` changes the run.
+    pub fn event(&mut self, code: &Code, limits: Limits, task: u32) -> Next
+        requires known { IsSomeReplay code.now self.old }
+        requires local { limits.local_steps ≡ 1000000 }
+        requires events { limits.events ≤ 1000000 }
+        ensures { (P : tree.Program) (h : List Event) (m : Machine) → IsReplayOf P code.now h self.old m → IsNext P code.now limits h m task self.new result }
+    {
+        if !self.runs(task) {
+            return Next::Idle;
+        }
+        let wish = self.ask(code, task);
+        if let Some(next) = self.bar(limits, task, wish) {
+            return next;
+        }
+        match self.go(code, task, wish) {
+            Ok(entry) => Next::Made { entry },
+            Err(_) => Next::NoMemory,
+        }
     }
 }
