@@ -5,3 +5,4 @@ pub mod Acting
 pub mod Starting
 pub mod Asking
 pub mod Waiting
+pub mod Answering

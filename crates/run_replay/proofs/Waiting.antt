@@ -78,7 +78,7 @@ at_event s t w = (1000000, refl, w)
 
 module _ (P : tree.Program) (code : Compiled) (h : List Event) (now : ReplayNow) (m : Machine) (x : IsReplayOf P code h now m) (r : Running) where
   -- a cell that is read exists
-  cell_there : (s : TaskState) (cell : ℕ) → wish_of P s ≡ ToRead cell → (value : ℤ) × (slice_get m.cells cell ≡ Some value)
+  pub cell_there : (s : TaskState) (cell : ℕ) → wish_of P s ≡ ToRead cell → (value : ℤ) × (slice_get m.cells cell ≡ Some value)
   cell_there s cell is =
       let below : cell < cell_count P = subst (λ z. ReadsBelow (cell_count P) z) is (wish_below P (well_typed_has_cells P x.typed) s) in
       let size : length m.cells ≡ cell_count P = cells_from P (opening P) h m x.leads ∙ replicate_length (cell_count P) (pos 0) in

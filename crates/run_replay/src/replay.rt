@@ -1,5 +1,5 @@
 //! A run: its events one after the other.
-ghost use Rattle.std.specs.Prelude.{◌≡◌, ◌<◌, ◌≤◌, ◌+◌, ◌*◌, ◌^◌, ℕ, ℤ, ◌⊎◌, List, [], length, slice_get, Some, None, IfOk, OnErr, OnOk, MatchOption};
+ghost use Rattle.std.specs.Prelude.{◌≡◌, ◌<◌, ◌≤◌, ◌+◌, ◌*◌, ◌^◌, ℕ, ℤ, true, false, ◌⊎◌, List, [], length, slice_get, Some, None, IfOk, OnErr, OnOk, MatchOption};
 ghost use Rattle.fut_base.specs.declared.event.Event.{Event};
 ghost use Rattle.fut_base.specs.Events.{action_of, event_of};
 ghost use Rattle.fut_syntax.specs.Trees as tree;
@@ -9,8 +9,9 @@ ghost use Rattle.task_machine.specs.State.{TaskState, ToCreate, ToSpawn, wish_of
 ghost use Rattle.task_machine.specs.Runs.{StandsAt};
 ghost use Rattle.task_machine.specs.Machine.{Machine, Running, opening, EachEnded, IsRunning};
 ghost use Rattle.task_code.specs.Flat.{Compiled, IsCodeOf, Wishes};
+ghost use Rattle.task_code.specs.declared.task.Wish.TheVariants as asked;
 ghost use Rattle.run_laws.specs.Laws.{IsFirst};
-ghost use Rattle.run_replay.specs.Next.{Goes, IsBar, IsNext, MayGo};
+ghost use Rattle.run_replay.specs.Next.{Goes, is_create, IsBar, IsNext, MayGo};
 ghost use Rattle.run_replay.specs.Replays.{HaveEnded, is_running, RunsStill, value_at, CanAct, IsBarred, IsEvent, IsFree, IsReplayOf, IsSomeReplay, RunsAt, StandsStill, Takes};
 
 use crate::copies::copy_of;
@@ -62,6 +63,23 @@ impl Model for Replay {
     ghost Value = { ReplayNow };
 
     ghost view = { λ r. record { lines = r.lines.items; cells = r.cells.items; ready = r.ready.items; entries = r.entries; creates = r.creates; strands = r.strands } };
+}
+
+/// Whether a task goes on with local steps for too long.
+fn is_long(wish: Wish) -> bool
+    ensures long { result ≡ true → wish ≡ asked.Long }
+    ensures event { result ≡ false → IsEvent wish }
+{
+    match wish {
+        Wish::Long => true,
+        Wish::Read { .. }
+        | Wish::Write { .. }
+        | Wish::Spawn { .. }
+        | Wish::Create { .. }
+        | Wish::Sync
+        | Wish::Get { .. }
+        | Wish::End { .. } => false,
+    }
 }
 
 impl Replay {
@@ -295,22 +313,37 @@ impl Replay {
         self.take(code, task, act)
     }
 
+    /// Whether a wish is to create a future, and as many were created as may be.
+    fn is_full(&self, limits: Limits, wish: Wish) -> bool
+        ensures full { result ≡ true → (is_create wish ≡ true) × (limits.futures ≤ self.now.creates) }
+        ensures few { result ≡ false → is_create wish ≡ true → self.now.creates < limits.futures }
+    {
+        match wish {
+            Wish::Create { .. } => self.creates >= limits.futures,
+            Wish::Read { .. }
+            | Wish::Write { .. }
+            | Wish::Spawn { .. }
+            | Wish::Sync
+            | Wish::Get { .. }
+            | Wish::End { .. }
+            | Wish::Long => false,
+        }
+    }
+
     /// Why a task that wishes this makes no event now.
     fn bar(&self, limits: Limits, task: u32, wish: Wish) -> Option<Next>
         requires exists { task < length self.now.lines }
         ensures { (P : tree.Program) (code : Compiled) (h : List Event) (m : Machine) (r : Running) → IsReplayOf P code h self.now m → IsRunning m task r → Wishes P 1000000 r.state wish → MatchOption result (MayGo limits h m r wish) (λ next. IsBar P limits h m task next) }
     {
-        if let Wish::Long = wish {
+        if is_long(wish) {
             return Some(Next::Spent {
                 finish: Finish::Local { task },
             });
         }
-        if let Wish::Create { .. } = wish {
-            if self.creates >= limits.futures {
-                return Some(Next::Spent {
-                    finish: Finish::Futures { task },
-                });
-            }
+        if self.is_full(limits, wish) {
+            return Some(Next::Spent {
+                finish: Finish::Futures { task },
+            });
         }
         if let Some(future) = self.waits(task, wish) {
             return Some(Next::Waits { future });
