@@ -37,7 +37,7 @@ count_one p e = sum_by-cons (λ x. cond (p x) 1 0) e [] ∙ by (p e)
     by true = refl
     by false = refl
 
-creates_further : (h : List Event) (e : Event) → create_count (h ++ e ∷ []) ≡ create_count h + creates_by (creates e.action)
+pub creates_further : (h : List Event) (e : Event) → create_count (h ++ e ∷ []) ≡ create_count h + creates_by (creates e.action)
 creates_further h e =
     sum_by-append (λ x. cond (creates x.action) 1 0) h (e ∷ [])
     ∙ ap (λ n. create_count h + n) (count_one (λ x. creates x.action) e)

@@ -178,7 +178,7 @@ pub running_task : (P : tree.Program) (code : Compiled) (h : List Event) (now : 
 running_task P code h now m t x is =
     let l = running_line (slice_get now.lines t) is in
     let found = task_of_line P code now.lines m.tasks t l.0 x.lines l.1 in
-    (found.0, found.1, sym found.2.value ∙ l.2)
+    (found.0, (found.1, sym found.2.value ∙ l.2))
 
 pub runs_at : (code : Compiled) (now : ReplayNow) (t : ℕ) → IsSomeReplay code now → is_running (slice_get now.lines t) ≡ true → RunsAt now.lines t
 runs_at code now t (P, h, m, x) is =
@@ -198,3 +198,7 @@ bar_next P code limits h m t new (next.Spent finish) x b = (b, x)
 bar_next P code limits h m t new (next.Made entry) x b = absurd b
 bar_next P code limits h m t new next.Idle x b = absurd b
 bar_next P code limits h m t new next.NoMemory x b = absurd b
+
+pub made_of : (P : tree.Program) (code : Compiled) (limits : Limits) (h : List Event) (m : Machine) (t : ℕ) (r : Running) (w : asked.Wish) (e : Event) (new : ReplayNow) → MayGo limits h m r w → Goes P code h m t w e new → IsMade P code limits h m t e new
+made_of P code limits h m t r w e new may g =
+    record { task = g.task; next = g.next; step = g.step; few = may.few; creates_few = λ c. may.creates_few (g.create c); run = g.run }

@@ -6,3 +6,4 @@ pub mod Starting
 pub mod Asking
 pub mod Waiting
 pub mod Answering
+pub mod Serially

@@ -5,6 +5,7 @@ mod copies;
 
 pub mod line;
 pub mod replay;
+pub mod serial;
 mod table;
 
 mod ready;
