@@ -1,13 +1,15 @@
 -- The serial run goes on, or stops.
 use Rattle.std.proofs.Common.{◌≡◌, ℕ, zero, suc, ◌+◌, ◌<◌, ◌≤◌, Bool, true, false, List, [], ◌∷◌, ◌++◌, length, refl, sym, ap, ◌∙◌, subst, arith, inl, inr}
-use Rattle.std.specs.Prelude.{Option, Some, None, IsSome, is_some, slice_get, reverse, pos}
-use Rattle.std.proofs.lemmas.List.{reverse-append}
+use Rattle.std.specs.Prelude.{Option, Some, None, IsSome, is_some, slice_get, reverse, map, pos}
+use Rattle.std.proofs.lemmas.List.{reverse-append, map-append}
 use Rattle.std.proofs.lemmas.Bool.{false≢true}
 use Rattle.fut_base.specs.declared.record.Value.{Value}
 use Rattle.fut_base.specs.declared.record.Limits.{Limits}
 use Rattle.fut_base.specs.declared.record.Finish.{Finish}
 use Rattle.fut_base.specs.declared.record.Finish.TheVariants as finish
 use Rattle.fut_base.specs.declared.event.Event.{Event}
+use Rattle.fut_base.specs.declared.record.Entry.{Entry}
+use Rattle.fut_base.specs.Events.{event_of}
 use Rattle.fut_syntax.specs.Trees as tree
 use Rattle.fut_check.specs.Items.{IsWellTyped}
 use Rattle.task_machine.specs.Machine.{Machine, Running, opening, Leads, EachEnded, IsWhole, IsRunning, creates, create_count, FinishHolds}
@@ -77,7 +79,7 @@ not_whole P h m t r leads run all =
 
 pub stops_hold : (P : tree.Program) (code : Compiled) (limits : Limits) (h : List Event) (now : ReplayNow) (x : Runs P code limits h now) (f : Finish) → limits.futures ≡ 4096 → Stops P limits h x.machine f → FinishHolds P h f
 stops_hold P code limits h now x finish.Whole most s = (x.machine, x.replay.leads, s)
-stops_hold P code limits h now x (finish.Events b) most (t, r, first, (is, many, rest)) =
+stops_hold P code limits h now x (finish.Events b) most (t, r, first, (is, many, may, full)) =
     (let few = x.few in omega (arith, is, many, few), not_whole P h x.machine t r x.replay.leads first.running)
 stops_hold P code limits h now x (finish.Local u) most (t, r, first, (is, (q, run, out))) =
     (x.machine, q, x.replay.leads, subst (λ n. IsRunning x.machine n q) (sym is) run, out)
@@ -90,3 +92,14 @@ serial_run P code limits h now x f most s =
 
 pub runs_first : (P : tree.Program) (code : Compiled) (limits : Limits) (now : ReplayNow) → IsReplayOf P code [] now (opening P) → Runs P code limits [] now
 runs_first P code limits now x = record { machine = opening P; replay = x; serial = tt; few = omega arith; creates_few = omega arith }
+
+-- ---- one turn
+
+pub stays : (P : tree.Program) (code : Compiled) (limits : Limits) (h g : List Event) (old new : ReplayNow) (x : Runs P code limits h old) (f : Finish) → g ≡ h → IsReplayOf P code h new x.machine → Stops P limits h x.machine f → (y : Runs P code limits g new) × Stops P limits g y.machine f
+stays P code limits h g old new x f same k s =
+    subst (λ l. (y : Runs P code limits l new) × Stops P limits l y.machine f) (sym same)
+    (record { machine = x.machine; replay = k; serial = x.serial; few = x.few; creates_few = x.creates_few }, s)
+
+pub event_added : (hs rs ns : List Entry) (e : Entry) → rs ≡ hs → ns ≡ rs ++ e ∷ [] → map event_of ns ≡ map event_of hs ++ event_of e ∷ []
+event_added hs rs ns e kept added =
+    ap (map event_of) (added ∙ ap (λ (l : List Entry). l ++ e ∷ []) kept) ∙ map-append event_of hs (e ∷ [])

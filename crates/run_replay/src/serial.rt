@@ -37,7 +37,8 @@ fn turn(
             }
             Next::Spent { finish } => Ok(Some(finish)),
             Next::NoMemory => Err(NoMemory),
-            Next::Waits { .. } | Next::Idle => unreachable!(),
+            Next::Waits { .. } => unreachable!(),
+            Next::Idle => unreachable!(),
         },
     }
 }
