@@ -1,6 +1,6 @@
 -- The serial run goes on, or stops.
 use Rattle.std.proofs.Common.{◌≡◌, ℕ, zero, suc, ◌+◌, ◌<◌, ◌≤◌, Bool, true, false, List, [], ◌∷◌, ◌++◌, length, refl, sym, ap, ◌∙◌, subst, arith, inl, inr}
-use Rattle.std.specs.Prelude.{Option, Some, None, IsSome, is_some, slice_get, reverse, map, pos}
+use Rattle.std.specs.Prelude.{Option, Some, None, IsSome, is_some, slice_get, reverse, map, ℤ, pos}
 use Rattle.std.proofs.lemmas.List.{reverse-append, map-append}
 use Rattle.std.proofs.lemmas.Bool.{false≢true}
 use Rattle.fut_base.specs.declared.record.Value.{Value}
@@ -103,3 +103,7 @@ stays P code limits h g old new x f same k s =
 pub event_added : (hs rs ns : List Entry) (e : Entry) → rs ≡ hs → ns ≡ rs ++ e ∷ [] → map event_of ns ≡ map event_of hs ++ event_of e ∷ []
 event_added hs rs ns e kept added =
     ap (map event_of) (added ∙ ap (λ (l : List Entry). l ++ e ∷ []) kept) ∙ map-append event_of hs (e ∷ [])
+
+pub serial_as : (P : tree.Program) (limits : Limits) (h g : List Event) (f k : Finish) (cells ds : List ℤ) → g ≡ h → k ≡ f → ds ≡ cells → IsSerialRun P limits h f cells → IsSerialRun P limits g k ds
+serial_as P limits h g f k cells ds a b e x =
+    subst (λ l. IsSerialRun P limits l k ds) (sym a) (subst (λ l. IsSerialRun P limits h l ds) (sym b) (subst (λ l. IsSerialRun P limits h f l) (sym e) x))

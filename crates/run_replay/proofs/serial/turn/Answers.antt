@@ -45,8 +45,8 @@ unreachable-requires c =
     let waits = c.in-Waits.ensures p.0 h x.machine x.replay in
     never_waits p.0 h x.machine c.in-Some.task first.0 c.in-Waits.future p.1 x.replay.leads first.1 waits.0.0
 
-pub unreachable-2-requires : goal.unreachable-2-requires
-unreachable-2-requires c =
+pub unreachable-requires-in-Idle : goal.unreachable-requires-in-Idle
+unreachable-requires-in-Idle c =
     let p = c.requires.program in
     let h = events_of c.args.history.now in
     let x = c.requires.runs p.0 p.1 p.2 in
