@@ -1,5 +1,0 @@
-//! Flat code of any program, and the tasks that run it.
-#![tactic(auto)]
-
-pub mod code;
-pub mod task;
