@@ -18,10 +18,11 @@ use Rattle.task_machine.proofs.Leading.{leads_further}
 use Rattle.task_types.specs.Typed.{ArgsFit, ActionFits, any_future}
 use Rattle.task_types.specs.Running.{Passes}
 use Rattle.task_types.proofs.Running.{steps_fit, children_fit}
-use Rattle.task_code.specs.Flat.{Compiled, TaskNow, IsCodeOf, IsTaskOf}
+use Rattle.task_code.specs.Flat.{Compiled, IsCodeOf}
+use Rattle.task_code.specs.Tasks.{TaskNow, IsTaskOf, IsStill}
 use Rattle.run_replay.specs.declared.line.Line.{Line}
 use Rattle.run_laws.specs.Ready.{ready_by, ready_past, ready_of}
-use Rattle.run_replay.specs.Replays.{ReplayNow, IsLineOf, AreLinesOf, IsReplayOf, Fed, ActsAs, Begins, AreBegun, Takes, CanAct, creates_by}
+use Rattle.run_replay.specs.Replays.{ReplayNow, IsLineOf, AreLinesOf, IsReplayOf, Fed, ActsAs, Begins, AreBegun, StillAt, Takes, CanAct, creates_by}
 use Rattle.run_replay.proofs.Lining.{task_of_line, set_line, add_lines, set_length, some_same}
 
 not_some : {X : Type 0} (o : Option X) → is_some o ≡ false → o ≡ None
@@ -89,9 +90,9 @@ can_step P m t r a present runs can =
     record { task = r; stop = can.stop; present = present; running = runs; strand = refl; stands = can.stands; answers = can.answers; permits = can.permits; gives = refl }
 
 -- a run that has taken an action that the machine permits has made a step
-pub takes_step : (P : tree.Program) (code : Compiled) (h : List Event) (m : Machine) (old new : ReplayNow) (t : ℕ) (a : Action) (e : Event) (r : Running) → IsReplayOf P code h old m → Takes code old new t a e → slice_get m.tasks t ≡ Some r → r.value ≡ None → CanAct P m r a
+pub takes_step : (P : tree.Program) (code : Compiled) (h : List Event) (m : Machine) (old new : ReplayNow) (t : ℕ) (a : Action) (e : Event) (r : Running) → IsReplayOf P code h old m → Takes code old new t a e → StillAt code old.lines t → slice_get m.tasks t ≡ Some r → r.value ≡ None → CanAct P m r a
     → (n : Machine) × IsStep P m e n × IsReplayOf P code (h ++ e ∷ []) new n
-takes_step P code h m old new t a e r x k present runs can =
+takes_step P code h m old new t a e r x k st present runs can =
     let found = task_of_line P code old.lines m.tasks t k.before x.lines k.present in
     let same : found.0 ≡ r = some_same found.0 r (sym found.1 ∙ present) in
     let l : IsLineOf P code k.before r = subst (λ (q : Running). IsLineOf P code k.before q) same found.2 in
@@ -100,7 +101,7 @@ takes_step P code h m old new t a e r x k present runs can =
     let n : Machine = after P m own r can.stop in
     let step : IsStep P m own n = can_step P m t r a present runs can in
     let still : k.before.task.spot.ended ≡ false = l.ended ∙ ap (λ (o : Option Value). is_some o) runs in
-    let fed = k.acts.fed still in
+    let fed = k.acts.fed still (subst (λ (z : Line). IsStill code z.task) (some_same st.0 k.before (sym st.1 ∙ k.present)) st.3) in
     let fits : ActionFits any_future P k.before.task.which can.stop a = subst (λ w. ActionFits any_future P w can.stop a) (sym l.which) (steps_fit P h m own n x.typed x.leads step) in
     let line : IsLineOf P code k.after (acted r can.stop a) =
         record {

@@ -12,13 +12,14 @@ use Rattle.task_machine.specs.State.{TaskState, Wish, ToRead, ToWrite, ToSpawn, 
 use Rattle.task_machine.specs.Runs.{StandsWithin, StandsAt, GoesOn, IsOutOfSteps}
 use Rattle.task_machine.specs.Machine.{Machine, Running, opening, ended_with, AllHaveEnded, Permits, after, IsStep, IsAllowed, IsRunning, creates, create_count, WishesCreate}
 use Rattle.task_machine.proofs.Stepping.{stands_at_one, stands_or_goes_on}
-use Rattle.task_code.specs.Flat.{Compiled, Wishes}
+use Rattle.task_code.specs.Flat.{Compiled}
+use Rattle.task_code.specs.Tasks.{Wishes}
 use Rattle.task_code.specs.declared.task.Wish as asked
 use Rattle.task_code.specs.declared.task.Wish.TheVariants as wish
 use Rattle.run_replay.specs.declared.line.Line.{Line}
 use Rattle.run_replay.specs.declared.replay.Next.{Next}
 use Rattle.run_replay.specs.declared.replay.Next.TheVariants as next
-use Rattle.run_replay.specs.Replays.{ReplayNow, IsLineOf, IsReplayOf, IsSomeReplay, Takes, CanAct, IsEvent, IsFree, IsBarred, RunsAt, is_running, value_at}
+use Rattle.run_replay.specs.Replays.{ReplayNow, IsLineOf, IsReplayOf, IsSomeReplay, Takes, CanAct, IsEvent, IsFree, IsBarred, RunsAt, StillAt, is_running, value_at}
 use Rattle.run_replay.specs.Next.{is_create, WaitsFor, IsWaiting, IsFull, IsSpent, IsMade, Goes, MayGo, IsBar, IsNext}
 use Rattle.run_replay.proofs.Lining.{task_of_line, line_of_task, some_same}
 use Rattle.run_replay.proofs.Acting.{takes_step, can_step}
@@ -64,9 +65,9 @@ acts_create P m r w (Syncs _) can wishes c = absurd (false≢true c)
 acts_create P m r w (Gets _ _ _) can wishes c = absurd (false≢true c)
 acts_create P m r w (Ends _) can wishes c = absurd (false≢true c)
 
-pub goes : (P : tree.Program) (code : Compiled) (h : List Event) (m : Machine) (old new : ReplayNow) (t : ℕ) (w : asked.Wish) (a : Action) (e : Event) (r : Running) → IsReplayOf P code h old m → IsRunning m t r → Wishes P 1000000 r.state w → CanAct P m r a → Takes code old new t a e → Goes P code h m t w e new
-goes P code h m old new t w a e r x run wishes can k =
-    let n = takes_step P code h m old new t a e r x k run.0 run.1 can in
+pub goes : (P : tree.Program) (code : Compiled) (h : List Event) (m : Machine) (old new : ReplayNow) (t : ℕ) (w : asked.Wish) (a : Action) (e : Event) (r : Running) → IsReplayOf P code h old m → IsRunning m t r → Wishes P 1000000 r.state w → CanAct P m r a → StillAt code old.lines t → Takes code old new t a e → Goes P code h m t w e new
+goes P code h m old new t w a e r x run wishes can st k =
+    let n = takes_step P code h m old new t a e r x k st run.0 run.1 can in
     record {
       task = ap (λ (d : Event). d.task) k.event;
       next = n.0;

@@ -4,7 +4,8 @@ use Rattle.std.specs.Prelude.{Some, slice_get, slice_set}
 use Rattle.fut_syntax.specs.Trees as tree
 use Rattle.fut_check.specs.Items.{IsWellTyped}
 use Rattle.task_machine.specs.Machine.{Running}
-use Rattle.task_code.specs.Flat.{Compiled, TaskNow, IsCodeOf}
+use Rattle.task_code.specs.Flat.{Compiled, IsCodeOf}
+use Rattle.task_code.specs.Tasks.{TaskNow}
 use Rattle.run_replay.specs.declared.line.Line.{Line}
 use Rattle.run_replay.specs.Replays.{ReplayNow, IsLineOf, AreLinesOf, IsReplayOf, KeepsTask, KeepsLine, KeepsLineAt, StandsStill}
 

@@ -13,10 +13,11 @@ use Rattle.task_machine.specs.State.{start_state}
 use Rattle.task_machine.specs.Machine.{Machine, Running, opening, begins, strand_after, cells_after, creates}
 use Rattle.task_types.proofs.Mains.{main_fits}
 use Rattle.task_types.specs.Typed.{any_future}
-use Rattle.task_code.specs.Flat.{Compiled, TaskNow, IsCodeOf, IsTaskOf}
+use Rattle.task_code.specs.Flat.{Compiled, IsCodeOf}
+use Rattle.task_code.specs.Tasks.{TaskNow, IsTaskOf, IsStill}
 use Rattle.run_laws.specs.Ready.{ready_by, ready_of}
 use Rattle.run_replay.specs.declared.line.Line.{Line}
-use Rattle.run_replay.specs.Replays.{ReplayNow, IsLineOf, AreLinesOf, IsReplayOf, IsSomeReplay, KeepsTask, KeepsLine, KeepsLineAt, StandsStill, Fed, ActsAs, ActsAt, AreBegun, Begins, Takes, creates_by}
+use Rattle.run_replay.specs.Replays.{ReplayNow, IsLineOf, AreLinesOf, IsReplayOf, IsSomeReplay, KeepsTask, KeepsLine, KeepsLineAt, StandsStill, Fed, ActsAs, ActsAt, AreBegun, Begins, StillAt, Takes, creates_by}
 use Rattle.run_replay.proofs.Lining.{task_of_line, kept_lines, kept_length, set_twice, get_set_here, some_same, item_at}
 use Rattle.task_machine.proofs.Places.{get_below}
 
@@ -85,11 +86,11 @@ still_by code old new t k cells ready entries creates strands P h m x =
 
 -- ---- a run that takes an action
 
-acts_on : (code : Compiled) (x y z : Line) (a : Action) → KeepsLine code x y → ActsAs code y z a → ActsAs code x z a
-acts_on code x y z a k w =
+acts_on : (code : Compiled) (x y z : Line) (a : Action) → KeepsLine code x y → IsStill code y.task → ActsAs code y z a → ActsAs code x z a
+acts_on code x y z a k still w =
     record {
-      fed = λ runs. (
-          let f = w.fed (k.task.ended ∙ runs) in
+      fed = λ runs old. (
+          let f = w.fed (k.task.ended ∙ runs) still in
           record {
             which = f.which ∙ k.task.which;
             ended = f.ended;
@@ -107,10 +108,10 @@ at : ℕ → ℕ → Action → Event
 at t s a = record { task = t; strand = s; action = a }
 
 pub takes_by : (code : Compiled) (old new : ReplayNow) (mid : List Line) (t : ℕ) (a : Action) (e : Event) (begun : List Line) (x : Line)
-    → slice_get old.lines t ≡ Some x → KeepsLineAt code old.lines mid t → ActsAt code mid new.lines t a begun → AreBegun code x.future a begun → e ≡ record { task = t; strand = x.strand; action = a }
+    → slice_get old.lines t ≡ Some x → KeepsLineAt code old.lines mid t → StillAt code mid t → ActsAt code mid new.lines t a begun → AreBegun code x.future a begun → e ≡ record { task = t; strand = x.strand; action = a }
     → new.cells ≡ cells_after a old.cells → new.strands ≡ old.strands + strands_by a → new.entries ≡ old.entries + 1 → new.creates ≡ old.creates + creates_by (creates a) → reverse new.ready ≡ ready_by t a (reverse old.ready)
     → Takes code old new t a e
-takes_by code old new mid t a e begun x present k w are event cells strands entries creates ready =
+takes_by code old new mid t a e begun x present k st w are event cells strands entries creates ready =
     let same : k.before ≡ x = some_same k.before x (sym k.present ∙ present) in
     let here = get_set_here old.lines t k.after (get_below old.lines t x present) in
     let middle : k.after ≡ w.before = some_same k.after w.before (sym here ∙ (ap (λ l. slice_get l t) (sym k.is) ∙ w.present)) in
@@ -122,7 +123,7 @@ takes_by code old new mid t a e begun x present k w are event cells strands entr
       present = present;
       event = event;
       lines = w.is ∙ ap (λ l. l ++ begun) (ap (λ l. slice_set l t w.after) k.is ∙ set_twice old.lines t k.after w.after);
-      acts = acts_on code x w.before w.after a keeps w.acts;
+      acts = acts_on code x w.before w.after a keeps (subst (λ (z : Line). IsStill code z.task) (some_same st.0 w.before (sym st.1 ∙ w.present)) st.3) w.acts;
       are_begun = are;
       cells = cells;
       strands = strands;

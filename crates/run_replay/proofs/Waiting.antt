@@ -11,7 +11,8 @@ use Rattle.task_machine.specs.State.{TaskState, ToRead, ToWrite, ToSpawn, ToCrea
 use Rattle.task_machine.specs.Runs.{StandsWithin, StandsAt}
 use Rattle.task_machine.specs.Texts.{cell_count}
 use Rattle.task_machine.specs.Machine.{Machine, Running, opening, ended_with, AllHaveEnded, Permits}
-use Rattle.task_code.specs.Flat.{Compiled, Wishes}
+use Rattle.task_code.specs.Flat.{Compiled}
+use Rattle.task_code.specs.Tasks.{Wishes}
 use Rattle.task_code.specs.declared.task.Wish as asked
 use Rattle.task_code.specs.declared.task.Wish.TheVariants as wish
 use Rattle.run_replay.specs.declared.line.Line.{Line}

@@ -16,7 +16,8 @@ use Rattle.task_machine.specs.State.{TaskState, Wish, ToSync, ToGet, wish_of, ef
 use Rattle.task_machine.specs.Runs.{StandsAt, IsOutOfSteps}
 use Rattle.task_machine.specs.Machine.{Machine, Running, opening, ended_with, AllHaveEnded, Permits, strand_after, cells_after, IsStep, Leads, EachEnded, IsAllowed, IsRunning, creates, create_count, WishesCreate, FinishHolds}
 use Rattle.task_types.specs.Typed.{ArgsFit, ActionFits, any_future}
-use Rattle.task_code.specs.Flat.{Compiled, TaskNow, IsCodeOf, IsTaskOf, Wishes}
+use Rattle.task_code.specs.Flat.{Compiled, IsCodeOf}
+use Rattle.task_code.specs.Tasks.{TaskNow, IsTaskOf, IsStill, Wishes}
 use Rattle.task_code.specs.declared.task.Wish as asked
 use Rattle.task_code.specs.declared.task.Wish.TheVariants as wish
 use Rattle.run_laws.specs.Ready.{ready_by, ready_of}
@@ -99,7 +100,7 @@ pub record Fed (code : Compiled) (old new : TaskNow) (a : Action) : Type 0 where
   pub state : (P : tree.Program) → IsWellTyped P → IsCodeOf P code → (args : List Value) (s t : TaskState) → IsTaskOf P code args old s → StandsAt s t → Answers (wish_of P t) a → ActionFits any_future P old.which t a → IsTaskOf P code args new (effect_of t a)
 
 pub record ActsAs (code : Compiled) (old new : Line) (a : Action) : Type 0 where
-  pub fed : old.task.spot.ended ≡ false → Fed code old.task new.task a
+  pub fed : old.task.spot.ended ≡ false → IsStill code old.task → Fed code old.task new.task a
   pub strand : new.strand ≡ strand_after a old.strand
   pub future : new.future ≡ old.future
   pub block : new.block.items ≡ block_after a old.block.items
@@ -127,6 +128,10 @@ pub record ActsAt (code : Compiled) (old new : List Line) (t : ℕ) (a : Action)
 -- a task that exists and has not ended
 abbrev pub RunsAt : List Line → ℕ → Type 0
 RunsAt lines t = (line : Line) × (slice_get lines t ≡ Some line) × (line.task.spot.ended ≡ false)
+
+-- such a task that stands at an event
+abbrev pub StillAt : Compiled → List Line → ℕ → Type 0
+StillAt code lines t = (line : Line) × (slice_get lines t ≡ Some line) × (line.task.spot.ended ≡ false) × IsStill code line.task
 
 abbrev pub is_running : Option Line → Bool
 is_running None = false

@@ -4,6 +4,7 @@ ghost use Rattle.fut_base.specs.Events.{action_of};
 ghost use Rattle.fut_base.specs.Dag.{block_after};
 ghost use Rattle.fut_base.specs.Sound.{value_by};
 ghost use Rattle.task_machine.specs.Machine.{strand_after};
+ghost use Rattle.task_code.specs.Tasks.{IsStill};
 ghost use Rattle.run_replay.specs.Replays.{ActsAs, AreBegun, Begins, HasRoom, KeepsLine};
 
 use fut_base::list::NoMemory;
@@ -86,6 +87,7 @@ pub fn begin_child(
 /// Makes room for one more entry.
 pub fn make_room(line: &mut Line, code: &Code) -> Result<(), NoMemory>
     ensures same { KeepsLine code.now line.old line.new }
+    ensures still { IsStill code.now line.old.task → IsStill code.now line.new.task }
     ensures room { OnOk result (HasRoom line.new) }
 {
     line.block.reserve(1)?;

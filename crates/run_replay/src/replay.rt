@@ -8,11 +8,12 @@ ghost use Rattle.fut_base.specs.declared.record.Value.{Value as Carried};
 ghost use Rattle.task_machine.specs.State.{TaskState, ToCreate, ToSpawn, wish_of};
 ghost use Rattle.task_machine.specs.Runs.{StandsAt};
 ghost use Rattle.task_machine.specs.Machine.{Machine, Running, opening, EachEnded, IsRunning};
-ghost use Rattle.task_code.specs.Flat.{Compiled, IsCodeOf, Wishes};
+ghost use Rattle.task_code.specs.Flat.{Compiled, IsCodeOf};
+ghost use Rattle.task_code.specs.Tasks.{Wishes};
 ghost use Rattle.task_code.specs.declared.task.Wish.TheVariants as asked;
 ghost use Rattle.run_laws.specs.Laws.{IsFirst};
 ghost use Rattle.run_replay.specs.Next.{Goes, is_create, IsBar, IsNext, MayGo};
-ghost use Rattle.run_replay.specs.Replays.{HaveEnded, is_running, RunsStill, value_at, CanAct, IsBarred, IsEvent, IsFree, IsReplayOf, IsSomeReplay, RunsAt, StandsStill, Takes};
+ghost use Rattle.run_replay.specs.Replays.{HaveEnded, is_running, RunsStill, value_at, CanAct, IsBarred, IsEvent, IsFree, IsReplayOf, IsSomeReplay, RunsAt, StandsStill, StillAt, Takes};
 
 use crate::copies::copy_of;
 use crate::line::{begin, begin_child, Line};
@@ -147,6 +148,7 @@ impl Replay {
         requires running { RunsAt self.old.lines task }
         ensures still { StandsStill code.now self.old self.new }
         ensures running { RunsAt self.new.lines task }
+        ensures stands { IsEvent result → StillAt code.now self.new.lines task }
         ensures counts { (self.new.entries ≡ self.old.entries) × (self.new.creates ≡ self.old.creates) }
         ensures wish { (P : tree.Program) (h : List Event) (m : Machine) (r : Running) → IsReplayOf P code.now h self.old m → slice_get m.tasks task ≡ Some r → Wishes P 1000000 r.state result }
     {
@@ -207,7 +209,7 @@ impl Replay {
     /// The arguments of the task that a task wishes to begin.
     fn args(&self, code: &Code, task: u32) -> Result<Args, NoMemory>
         requires known { IsSomeReplay code.now self.now }
-        requires running { RunsAt self.now.lines task }
+        requires still { StillAt code.now self.now.lines task }
         ensures { (P : tree.Program) (h : List Event) (m : Machine) (r : Running) (stop : TaskState) (which : ℕ) (args : List Carried) → IsReplayOf P code.now h self.now m → slice_get m.tasks task ≡ Some r → StandsAt r.state stop → (wish_of P stop ≡ ToSpawn which args) ⊎ (wish_of P stop ≡ ToCreate which args) → IfOk result (λ a. a.items ≡ args) }
     {
         self.lines[task as usize].task.args(self.alloc, code)
@@ -216,7 +218,7 @@ impl Replay {
     /// The act that answers a wish which waits for nothing.
     fn act_of(&self, code: &Code, task: u32, wish: Wish) -> Result<Act, NoMemory>
         requires known { IsSomeReplay code.now self.now }
-        requires running { RunsAt self.now.lines task }
+        requires still { StillAt code.now self.now.lines task }
         requires event { IsEvent wish }
         requires few { length self.now.lines < 2 ^ 32 }
         requires made { self.now.strands + 2 ≤ 2 ^ 32 }
@@ -278,6 +280,7 @@ impl Replay {
     /// Takes an act of a task.
     fn take(&mut self, code: &Code, task: u32, act: Act) -> Result<Entry, NoMemory>
         requires exists { task < length self.old.lines }
+        requires still { StillAt code.now self.old.lines task }
         requires few { self.old.entries + 1 < 2 ^ 32 }
         requires created { self.old.creates + 1 < 2 ^ 32 }
         requires made { self.old.strands + 2 < 2 ^ 64 }
@@ -303,7 +306,7 @@ impl Replay {
     /// Makes the event of a task whose wish waits for nothing.
     fn go(&mut self, code: &Code, task: u32, wish: Wish) -> Result<Entry, NoMemory>
         requires known { IsSomeReplay code.now self.old }
-        requires running { RunsAt self.old.lines task }
+        requires still { StillAt code.now self.old.lines task }
         requires event { IsEvent wish }
         requires few { self.old.entries < 2 ^ 30 }
         ensures made { (P : tree.Program) (h : List Event) (m : Machine) (r : Running) → IsReplayOf P code.now h self.old m → IsRunning m task r → Wishes P 1000000 r.state wish → IsFree m r wish → IfOk result (λ entry. Goes P code.now h m task wish (event_of entry) self.new) }

@@ -3,7 +3,7 @@ ghost use Rattle.std.specs.Prelude.{◌≡◌, ◌<◌, ◌≤◌, length, OnOk,
 ghost use Rattle.fut_base.specs.Events.{action_of};
 ghost use Rattle.fut_base.specs.Sound.{strands_by};
 ghost use Rattle.task_machine.specs.Machine.{cells_after, creates};
-ghost use Rattle.run_replay.specs.Replays.{ActsAt, creates_by, HasRoomAt, KeepsLineAt};
+ghost use Rattle.run_replay.specs.Replays.{ActsAt, creates_by, HasRoomAt, KeepsLineAt, StillAt};
 
 use crate::line::{act_as, make_room, Line};
 use fut_base::list::NoMemory;
@@ -14,6 +14,7 @@ use task_code::code::Code;
 pub fn give_room(lines: &mut Vec<Line>, code: &Code, place: usize) -> Result<(), NoMemory>
     requires exists { place < length lines.old.items }
     ensures same { KeepsLineAt code.now lines.old.items lines.new.items place }
+    ensures still { StillAt code.now lines.old.items place → StillAt code.now lines.new.items place }
     ensures room { OnOk result (HasRoomAt lines.new.items place) }
     ensures spare { OnOk result (vec_len lines.new < vec_capacity lines.new) }
 {

@@ -5,7 +5,7 @@ use Rattle.std.specs.Int.{w64}
 use Rattle.std.proofs.lemmas.Int.{ints}
 use Rattle.run_replay.specs.contracts.replay.Replay.{the_view}
 use Rattle.run_replay.specs.Replays.{ReplayNow, IsReplayOf, IsFree}
-use Rattle.task_code.specs.Flat.{Wishes}
+use Rattle.task_code.specs.Tasks.{Wishes}
 use Rattle.run_replay.proofs.Waiting.{can_read, can_spawn, can_create, can_get, got}
 use Rattle.run_replay.proofs.replay.Replay.act_of.Goals as goal
 

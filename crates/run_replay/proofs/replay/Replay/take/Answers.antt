@@ -4,7 +4,7 @@ use Rattle.std.proofs.lemmas.Option.{slice_get_read}
 use Rattle.fut_base.specs.Events.{action_of, event_of}
 use Rattle.run_replay.specs.contracts.replay.Replay.{the_view}
 use Rattle.run_replay.specs.declared.line.Line.{Line}
-use Rattle.run_replay.specs.Replays.{ReplayNow, StandsStill, Takes, AreBegun}
+use Rattle.run_replay.specs.Replays.{ReplayNow, StandsStill, StillAt, Takes, AreBegun}
 use Rattle.run_replay.proofs.Outcome.{on_err}
 use Rattle.run_replay.proofs.Lining.{some_same}
 use Rattle.run_replay.proofs.Starting.{still_by, takes_by, now_of}
@@ -34,5 +34,5 @@ returns-clause-taken c =
     let are = subst (λ (l : Line). AreBegun code l.future a (option_to_list c.in_ok-child.child)) same c.in_ok-child.ensures in
     let new : ReplayNow = (now_of c.commit.new.lines.items c.write.new.cells.items c.reorder.new.ready.items (c.self.inside.entries + 1) (c.self.inside.creates + c.creates_of.result) (c.self.inside.strands + c.strands_of.result)) in
     subst (λ v. Takes code v new t a (event_of c.in_ok-own.own)) c.self.view_is
-    (takes_by code (the_view c.self.inside) new c.give_room.new.lines.items t a (event_of c.in_ok-own.own) (option_to_list c.in_ok-child.child) x present c.in_ok-give_room.ensures.same c.commit.ensures are c.in_ok-own.ensures
+    (takes_by code (the_view c.self.inside) new c.give_room.new.lines.items t a (event_of c.in_ok-own.own) (option_to_list c.in_ok-child.child) x present c.in_ok-give_room.ensures.same (c.in_ok-give_room.ensures.still (subst (λ (v : ReplayNow). StillAt code v.lines t) (sym c.self.view_is) c.requires.still)) c.commit.ensures are c.in_ok-own.ensures
     c.write.ensures (ap (λ n. c.self.inside.strands + n) c.strands_of.ensures) refl (ap (λ n. c.self.inside.creates + n) c.creates_of.ensures) c.in_ok-reorder.ensures.ordered)
