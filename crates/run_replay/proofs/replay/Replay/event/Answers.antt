@@ -59,3 +59,12 @@ returns-in-Err c = λ P h m k.
     let r = running_task P code h c.args.self.now m t k (sym c.runs.ensures ∙ c.if-not-runs.false) in
     let still = c.ask-wish.ensures.still P h m k in
     (r, c.in-Err.ensures.unchanged P h m still)
+
+pub go-requires-clause-still : goal.go-requires-clause-still
+go-requires-clause-still c =
+    let (P, h, m, k) = c.requires.known in
+    let t = c.args.task in
+    let r = running_task P c.args.code.now h c.args.self.now m t k (sym c.runs.ensures ∙ c.if-not-runs.false) in
+    let still = c.ask-wish.ensures.still P h m k in
+    let may = c.in_default.ensures P c.args.code.now h m r.0 still r.1 (c.ask-wish.ensures.wish P h m r.0 k r.1.0) in
+    c.ask-wish.ensures.stands may.event
