@@ -1,6 +1,6 @@
 -- An event that the run takes is a step of the machine.
-use Rattle.std.proofs.Common.{◌≡◌, ℕ, zero, suc, ◌+◌, ◌*◌, ◌<◌, ◌≤◌, Bool, true, false, ◌||◌, if◌then◌else◌, List, [], ◌∷◌, ◌++◌, length, refl, sym, ap, ◌∙◌, subst, arith, length-append}
-use Rattle.std.specs.Prelude.{Option, Some, None, IsSome, is_some, slice_get, slice_set, count_by, reverse, cond}
+use Rattle.std.proofs.Common.{◌≡◌, ℕ, ◌+◌, ◌≤◌, Bool, true, false, List, [], ◌∷◌, ◌++◌, length, refl, sym, ap, ◌∙◌, subst, arith, length-append}
+use Rattle.std.specs.Prelude.{Option, Some, None, is_some, slice_get, slice_set, count_by, cond}
 use Rattle.std.proofs.lemmas.List.{reverse-append}
 use Rattle.std.proofs.lemmas.List.Sums.{sum_by-append, sum_by-cons}
 use Rattle.std.proofs.lemmas.Bool.{false≢true}
@@ -9,20 +9,19 @@ use Rattle.fut_base.specs.declared.event.Event.{Event}
 use Rattle.fut_base.specs.declared.event.Action.{Action}
 use Rattle.fut_base.specs.declared.event.Action.TheVariants.{Reads, Writes, Spawns, Creates, Syncs, Gets, Ends}
 use Rattle.fut_base.specs.Dag.{block_after}
-use Rattle.fut_base.specs.Sound.{strands_by, value_by, tasks_by}
+use Rattle.fut_base.specs.Sound.{strands_by, value_by}
 use Rattle.fut_syntax.specs.Trees as tree
 use Rattle.fut_check.specs.Items.{IsWellTyped}
-use Rattle.task_machine.specs.State.{TaskState, effect_of, start_state}
-use Rattle.task_machine.specs.Machine.{Machine, Running, opening, begins, strand_after, acted, child_of, cells_after, after, IsStep, Leads, creates, create_count}
+use Rattle.task_machine.specs.Machine.{Machine, Running, opening, begins, strand_after, acted, child_of, cells_after, after, IsStep, creates, create_count}
 use Rattle.task_machine.proofs.Leading.{leads_further}
 use Rattle.task_types.specs.Typed.{ArgsFit, ActionFits, any_future}
 use Rattle.task_types.specs.Running.{Passes}
 use Rattle.task_types.proofs.Running.{steps_fit, children_fit}
 use Rattle.task_code.specs.Flat.{Compiled, IsCodeOf}
-use Rattle.task_code.specs.Tasks.{TaskNow, IsTaskOf, IsStill}
+use Rattle.task_code.specs.Tasks.{IsStill}
 use Rattle.run_replay.specs.declared.line.Line.{Line}
 use Rattle.run_laws.specs.Ready.{ready_by, ready_past, ready_of}
-use Rattle.run_replay.specs.Replays.{ReplayNow, IsLineOf, AreLinesOf, IsReplayOf, Fed, ActsAs, Begins, AreBegun, StillAt, Takes, CanAct, creates_by}
+use Rattle.run_replay.specs.Replays.{ReplayNow, IsLineOf, AreLinesOf, IsReplayOf, AreBegun, StillAt, Takes, CanAct, creates_by}
 use Rattle.run_replay.proofs.Lining.{task_of_line, set_line, add_lines, set_length, some_same}
 
 not_some : {X : Type 0} (o : Option X) → is_some o ≡ false → o ≡ None
@@ -104,16 +103,16 @@ takes_step P code h m old new t a e r x k st present runs can =
     let fed = k.acts.fed still (subst (λ (z : Line). IsStill code z.task) (some_same st.0 k.before (sym st.1 ∙ k.present)) st.3) in
     let fits : ActionFits any_future P k.before.task.which can.stop a = subst (λ w. ActionFits any_future P w can.stop a) (sym l.which) (steps_fit P h m own n x.typed x.leads step) in
     let line : IsLineOf P code k.after (acted r can.stop a) =
-        record {
-          args = l.args;
-          task = fed.state P x.typed x.code_is l.args r.state can.stop l.task can.stands can.answers fits;
-          which = fed.which ∙ l.which;
-          ended = fed.ended ∙ ap (λ (o : Option Value). is_some (value_by a o)) (sym runs);
-          strand = k.acts.strand ∙ ap (strand_after a) l.strand;
-          future = k.acts.future ∙ l.future;
-          block = k.acts.block ∙ ap (block_after a) l.block;
-          value = k.acts.value ∙ ap (value_by a) l.value;
-        } in
+    record {
+      args = l.args;
+      task = fed.state P x.typed x.code_is l.args r.state can.stop l.task can.stands can.answers fits;
+      which = fed.which ∙ l.which;
+      ended = fed.ended ∙ ap (λ (o : Option Value). is_some (value_by a o)) (sym runs);
+      strand = k.acts.strand ∙ ap (strand_after a) l.strand;
+      future = k.acts.future ∙ l.future;
+      block = k.acts.block ∙ ap (block_after a) l.block;
+      value = k.acts.value ∙ ap (value_by a) l.value;
+    } in
     let begun = begun_lines P code r k.before a k.begun x.typed x.code_is l (λ which args p. children_fit P h m own n which args x.typed x.leads step p) k.are_begun in
     let lines = add_lines P code (slice_set old.lines t k.after) k.begun (slice_set m.tasks t (acted r can.stop a)) (child_of P r a) (set_line P code old.lines m.tasks t k.after (acted r can.stop a) x.lines line) begun in
     let more = begun_few code k.before.future a k.begun k.are_begun in
@@ -123,20 +122,23 @@ takes_step P code h m old new t a e r x k st present runs can =
     let two = strands_few a in
     let one = k.entries in
     let strands = k.strands in
-    subst (λ (d : Event). (n : Machine) × IsStep P m d n × IsReplayOf P code (h ++ d ∷ []) new n) (sym is)
-    (n, step, record {
-      typed = x.typed;
-      code_is = x.code_is;
-      leads = leads_further P (opening P) h own m n x.leads step;
-      lines = subst (λ z. AreLinesOf P code z n.tasks) (sym k.lines) lines;
-      cells = k.cells ∙ ap (cells_after a) x.cells;
-      strands = k.strands ∙ ap (λ s. s + strands_by a) x.strands;
-      entries = k.entries ∙ (ap (λ s. s + 1) x.entries ∙ sym (longer h own));
-      creates = k.creates_are ∙ (ap (λ s. s + creates_by (creates a)) x.creates ∙ sym (creates_further h own));
-      ready = k.ready ∙ (ap (ready_by t a) x.ready ∙ sym (ready_further h own));
-      few = omega (arith, more, size, few, one);
-      made = omega (arith, made, two, one, strands);
-    })
+    subst (λ (d : Event). (n : Machine) × IsStep P m d n × IsReplayOf P code (h ++ d ∷ []) new n) (sym is) (
+      n,
+      step,
+      record {
+        typed = x.typed;
+        code_is = x.code_is;
+        leads = leads_further P (opening P) h own m n x.leads step;
+        lines = subst (λ z. AreLinesOf P code z n.tasks) (sym k.lines) lines;
+        cells = k.cells ∙ ap (cells_after a) x.cells;
+        strands = k.strands ∙ ap (λ s. s + strands_by a) x.strands;
+        entries = k.entries ∙ (ap (λ s. s + 1) x.entries ∙ sym (longer h own));
+        creates = k.creates_are ∙ (ap (λ s. s + creates_by (creates a)) x.creates ∙ sym (creates_further h own));
+        ready = k.ready ∙ (ap (ready_by t a) x.ready ∙ sym (ready_further h own));
+        few = omega (arith, more, size, few, one);
+        made = omega (arith, made, two, one, strands);
+      },
+    )
   where
     at : ℕ → ℕ → Action → Event
     at t s a = record { task = t; strand = s; action = a }

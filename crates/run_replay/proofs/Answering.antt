@@ -1,6 +1,6 @@
 -- The answers on the next event of a task.
-use Rattle.std.proofs.Common.{◌≡◌, ℕ, zero, suc, ◌+◌, ◌<◌, ◌≤◌, Bool, true, false, List, [], ◌∷◌, ◌++◌, length, refl, sym, ap, ◌∙◌, subst, arith}
-use Rattle.std.specs.Prelude.{Option, Some, None, IsSome, is_some, not, slice_get, ℤ, pos, Result, Ok, Err, IfOk}
+use Rattle.std.proofs.Common.{◌≡◌, ℕ, ◌+◌, ◌<◌, true, false, List, length, refl, sym, ap, ◌∙◌, subst, arith}
+use Rattle.std.specs.Prelude.{Option, Some, None, IsSome, is_some, not, slice_get, Result, Ok, Err, IfOk}
 use Rattle.std.proofs.lemmas.Bool.{false≢true}
 use Rattle.fut_base.specs.declared.record.Value.{Value}
 use Rattle.fut_base.specs.declared.record.Limits.{Limits}
@@ -9,8 +9,8 @@ use Rattle.fut_base.specs.declared.event.Action.{Action}
 use Rattle.fut_base.specs.declared.event.Action.TheVariants.{Reads, Writes, Spawns, Creates, Syncs, Gets, Ends}
 use Rattle.fut_syntax.specs.Trees as tree
 use Rattle.task_machine.specs.State.{TaskState, Wish, ToRead, ToWrite, ToSpawn, ToCreate, ToSync, ToGet, ToEnd, wish_of, Answers}
-use Rattle.task_machine.specs.Runs.{StandsWithin, StandsAt, GoesOn, IsOutOfSteps}
-use Rattle.task_machine.specs.Machine.{Machine, Running, opening, ended_with, AllHaveEnded, Permits, after, IsStep, IsAllowed, IsRunning, creates, create_count, WishesCreate}
+use Rattle.task_machine.specs.Runs.{StandsAt}
+use Rattle.task_machine.specs.Machine.{Machine, Running, ended_with, AllHaveEnded, Permits, IsAllowed, IsRunning, creates, create_count, WishesCreate}
 use Rattle.task_machine.proofs.Stepping.{stands_at_one, stands_or_goes_on}
 use Rattle.task_code.specs.Flat.{Compiled}
 use Rattle.task_code.specs.Tasks.{Wishes}
@@ -19,11 +19,11 @@ use Rattle.task_code.specs.declared.task.Wish.TheVariants as wish
 use Rattle.run_replay.specs.declared.line.Line.{Line}
 use Rattle.run_replay.specs.declared.replay.Next.{Next}
 use Rattle.run_replay.specs.declared.replay.Next.TheVariants as next
-use Rattle.run_replay.specs.Replays.{ReplayNow, IsLineOf, IsReplayOf, IsSomeReplay, Takes, CanAct, IsEvent, IsFree, IsBarred, RunsAt, StillAt, is_running, value_at}
-use Rattle.run_replay.specs.Next.{is_create, WaitsFor, IsWaiting, IsFull, IsSpent, IsMade, Goes, MayGo, IsBar, IsNext}
+use Rattle.run_replay.specs.Replays.{ReplayNow, IsReplayOf, IsSomeReplay, Takes, CanAct, IsEvent, IsFree, IsBarred, RunsAt, StillAt, is_running}
+use Rattle.run_replay.specs.Next.{is_create, WaitsFor, IsWaiting, IsFull, IsMade, Goes, MayGo, IsBar, IsNext}
 use Rattle.run_replay.proofs.Lining.{task_of_line, line_of_task, some_same}
 use Rattle.run_replay.proofs.Acting.{takes_step, can_step}
-use Rattle.run_replay.proofs.Waiting.{at_event, can_read, cell_there}
+use Rattle.run_replay.proofs.Waiting.{at_event, cell_there}
 
 pub if_ok : {X E : Type 0} (r : Result X E) (P Q : X → Type 0) → ((x : X) → P x → Q x) → IfOk r P → IfOk r Q
 if_ok (Ok x) P Q f h = f x h

@@ -1,10 +1,9 @@
 -- A task is asked for its wish.
-use Rattle.std.proofs.Common.{◌≡◌, ℕ, ◌<◌, Bool, false, List, length, refl, sym, ap, ◌∙◌, subst}
-use Rattle.std.specs.Prelude.{Some, None, is_some, slice_get, slice_set}
+use Rattle.std.proofs.Common.{◌≡◌, ℕ, Bool, false, List, refl, sym, ◌∙◌, subst}
+use Rattle.std.specs.Prelude.{Some, None, is_some, slice_get}
 use Rattle.fut_base.specs.declared.record.Value.{Value}
 use Rattle.fut_base.specs.declared.event.Event.{Event}
 use Rattle.fut_syntax.specs.Trees as tree
-use Rattle.fut_check.specs.Items.{IsWellTyped}
 use Rattle.task_machine.specs.State.{TaskState}
 use Rattle.task_machine.specs.Machine.{Machine, Running}
 use Rattle.fut_base.specs.declared.event.Action.{Action}
@@ -16,11 +15,11 @@ use Rattle.task_machine.specs.Runs.{IsStateAfter}
 use Rattle.task_code.specs.declared.task.Spot.{Spot}
 use Rattle.task_code.specs.declared.task.Wish.TheVariants as wish
 use Rattle.task_code.specs.Frames.{Held}
-use Rattle.task_code.specs.Flat.{Compiled, IsCodeOf, code_of}
+use Rattle.task_code.specs.Flat.{Compiled, code_of}
 use Rattle.task_code.specs.Tasks.{TaskNow, IsTaskOf, IsSomeTask, IsStill, StopsAt, Wishes, ended_after, moves, trace_events}
 use Rattle.task_code.specs.declared.task.Wish as asked
 use Rattle.run_replay.specs.declared.line.Line.{Line}
-use Rattle.run_replay.specs.Replays.{ReplayNow, IsEvent, IsReplayOf, IsSomeReplay, KeepsLineAt, RunsAt}
+use Rattle.run_replay.specs.Replays.{ReplayNow, IsEvent, IsReplayOf, IsSomeReplay, RunsAt}
 use Rattle.run_replay.proofs.Lining.{task_of_line, some_same}
 
 pub some_task : (code : Compiled) (now : ReplayNow) (t : ℕ) (x : Line) → IsSomeReplay code now → slice_get now.lines t ≡ Some x → IsSomeTask code x.task

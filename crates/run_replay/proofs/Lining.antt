@@ -1,5 +1,5 @@
 -- Lines of a run beside the tasks of a machine.
-use Rattle.std.proofs.Common.{◌≡◌, ℕ, zero, suc, ◌+◌, ◌<◌, ◌≤◌, List, [], ◌∷◌, ◌++◌, length, refl, sym, ap, ◌∙◌, subst, arith}
+use Rattle.std.proofs.Common.{◌≡◌, ℕ, zero, suc, ◌<◌, List, [], ◌∷◌, ◌++◌, length, refl, sym, ap, ◌∙◌, subst, arith}
 use Rattle.std.specs.Prelude.{Some, slice_get, slice_set}
 use Rattle.fut_syntax.specs.Trees as tree
 use Rattle.fut_check.specs.Items.{IsWellTyped}
@@ -7,7 +7,7 @@ use Rattle.task_machine.specs.Machine.{Running}
 use Rattle.task_code.specs.Flat.{Compiled, IsCodeOf}
 use Rattle.task_code.specs.Tasks.{TaskNow}
 use Rattle.run_replay.specs.declared.line.Line.{Line}
-use Rattle.run_replay.specs.Replays.{ReplayNow, IsLineOf, AreLinesOf, IsReplayOf, KeepsTask, KeepsLine, KeepsLineAt, StandsStill}
+use Rattle.run_replay.specs.Replays.{ReplayNow, IsLineOf, AreLinesOf, KeepsTask, KeepsLine, KeepsLineAt, StandsStill}
 
 module _ (P : tree.Program) (code : Compiled) where
   -- the task of a line

@@ -1,6 +1,6 @@
 -- The serial run goes on, or stops.
-use Rattle.std.proofs.Common.{◌≡◌, ℕ, zero, suc, ◌+◌, ◌<◌, ◌≤◌, Bool, true, false, List, [], ◌∷◌, ◌++◌, length, refl, sym, ap, ◌∙◌, subst, arith, inl, inr}
-use Rattle.std.specs.Prelude.{Option, Some, None, IsSome, is_some, slice_get, reverse, map, ℤ, pos}
+use Rattle.std.proofs.Common.{◌≡◌, ℕ, zero, suc, ◌+◌, ◌<◌, ◌≤◌, Bool, true, false, List, [], ◌∷◌, ◌++◌, refl, sym, ap, ◌∙◌, subst, arith, inl, inr}
+use Rattle.std.specs.Prelude.{Option, Some, IsSome, is_some, slice_get, reverse, map, ℤ}
 use Rattle.std.proofs.lemmas.List.{reverse-append, map-append}
 use Rattle.std.proofs.lemmas.Bool.{false≢true}
 use Rattle.fut_base.specs.declared.record.Value.{Value}
@@ -15,11 +15,11 @@ use Rattle.fut_check.specs.Items.{IsWellTyped}
 use Rattle.task_machine.specs.Machine.{Machine, Running, opening, Leads, EachEnded, IsWhole, IsRunning, creates, create_count, FinishHolds}
 use Rattle.task_machine.proofs.Leading.{leads_to_one}
 use Rattle.task_machine.proofs.Stepping.{stands_or_goes_on}
-use Rattle.task_code.specs.Flat.{Compiled, IsCodeOf}
+use Rattle.task_code.specs.Flat.{Compiled}
 use Rattle.run_laws.specs.Laws.{IsFirst}
 use Rattle.run_laws.proofs.Ready.{first_may_go_on}
 use Rattle.run_replay.specs.Replays.{ReplayNow, IsReplayOf, creates_by}
-use Rattle.run_replay.specs.Next.{IsWaiting, IsFull, IsSpent, IsMade}
+use Rattle.run_replay.specs.Next.{IsWaiting, IsSpent, IsMade}
 use Rattle.run_replay.specs.Serials.{IsSerialPast, IsSerial, Stops, IsSerialRun, Runs}
 use Rattle.run_replay.proofs.Acting.{creates_further, longer}
 use Rattle.run_replay.proofs.Lining.{some_same}

@@ -1,6 +1,6 @@
 -- The opening state, the first task, and a run that stands still.
-use Rattle.std.proofs.Common.{◌≡◌, ℕ, zero, suc, ◌+◌, ◌*◌, ◌<◌, ◌≤◌, List, [], ◌∷◌, ◌++◌, length, replicate, refl, sym, ap, ◌∙◌, subst, arith}
-use Rattle.std.specs.Prelude.{Some, None, slice_get, slice_set, reverse, ℤ, pos}
+use Rattle.std.proofs.Common.{◌≡◌, ℕ, zero, suc, ◌+◌, List, [], ◌∷◌, ◌++◌, length, replicate, refl, sym, ap, ◌∙◌, subst, arith}
+use Rattle.std.specs.Prelude.{Some, slice_get, slice_set, reverse, ℤ, pos}
 use Rattle.std.proofs.lemmas.List.{reverse-append}
 use Rattle.fut_base.specs.declared.event.Event.{Event}
 use Rattle.fut_base.specs.declared.event.Action.{Action}
@@ -8,17 +8,16 @@ use Rattle.fut_base.specs.Dag.{block_after}
 use Rattle.fut_base.specs.Sound.{strands_by, value_by}
 use Rattle.fut_syntax.specs.Trees as tree
 use Rattle.fut_check.specs.Items.{IsWellTyped}
-use Rattle.task_machine.specs.Texts.{main_of, cell_count}
-use Rattle.task_machine.specs.State.{start_state}
-use Rattle.task_machine.specs.Machine.{Machine, Running, opening, begins, strand_after, cells_after, creates}
+use Rattle.task_machine.specs.Texts.{main_of}
+use Rattle.task_machine.specs.Machine.{opening, begins, strand_after, cells_after, creates}
 use Rattle.task_types.proofs.Mains.{main_fits}
 use Rattle.task_types.specs.Typed.{any_future}
 use Rattle.task_code.specs.Flat.{Compiled, IsCodeOf}
-use Rattle.task_code.specs.Tasks.{TaskNow, IsTaskOf, IsStill}
-use Rattle.run_laws.specs.Ready.{ready_by, ready_of}
+use Rattle.task_code.specs.Tasks.{IsStill}
+use Rattle.run_laws.specs.Ready.{ready_by}
 use Rattle.run_replay.specs.declared.line.Line.{Line}
-use Rattle.run_replay.specs.Replays.{ReplayNow, IsLineOf, AreLinesOf, IsReplayOf, IsSomeReplay, KeepsTask, KeepsLine, KeepsLineAt, StandsStill, Fed, ActsAs, ActsAt, AreBegun, Begins, StillAt, Takes, creates_by}
-use Rattle.run_replay.proofs.Lining.{task_of_line, kept_lines, kept_length, set_twice, get_set_here, some_same, item_at}
+use Rattle.run_replay.specs.Replays.{ReplayNow, IsLineOf, AreLinesOf, IsReplayOf, KeepsLine, KeepsLineAt, StandsStill, ActsAs, ActsAt, AreBegun, Begins, StillAt, Takes, creates_by}
+use Rattle.run_replay.proofs.Lining.{kept_lines, kept_length, set_twice, get_set_here, some_same}
 use Rattle.task_machine.proofs.Places.{get_below}
 
 pub begins_run : (P : tree.Program) (code : Compiled) (main : Line) (now : ReplayNow) → IsWellTyped P → IsCodeOf P code → Begins code code.main [] 0 0 main
@@ -27,17 +26,17 @@ pub begins_run : (P : tree.Program) (code : Compiled) (main : Line) (now : Repla
 begins_run P code main now typed of b lines cells ready entries creates strands =
     let size = ap length lines in
     let first : IsLineOf P code main (begins P (main_of P) [] 0 0) =
-        subst (λ n. IsLineOf P code main (begins P n [] 0 0)) of.main
-        (record {
-          args = [];
-          task = b.state P typed of (subst (λ n. Rattle.task_types.specs.Typed.ArgsFit any_future P n []) (sym of.main) (main_fits any_future P typed));
-          which = b.which_is;
-          ended = b.runs;
-          strand = b.strand_is;
-          future = b.future_is;
-          block = b.block;
-          value = b.value;
-        }) in
+    subst (λ n. IsLineOf P code main (begins P n [] 0 0)) of.main
+    (record {
+      args = [];
+      task = b.state P typed of (subst (λ n. Rattle.task_types.specs.Typed.ArgsFit any_future P n []) (sym of.main) (main_fits any_future P typed));
+      which = b.which_is;
+      ended = b.runs;
+      strand = b.strand_is;
+      future = b.future_is;
+      block = b.block;
+      value = b.value;
+    }) in
     record {
       typed = typed;
       code_is = of;

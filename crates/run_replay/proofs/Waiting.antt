@@ -1,22 +1,20 @@
 -- What a wish waits for, and the action that answers it.
-use Rattle.std.proofs.Common.{◌≡◌, ℕ, zero, suc, ◌+◌, ◌<◌, ◌≤◌, Bool, true, false, ◌&&◌, List, [], ◌∷◌, length, refl, sym, ap, ◌∙◌, subst, arith}
+use Rattle.std.proofs.Common.{◌≡◌, ℕ, zero, suc, ◌+◌, ◌<◌, true, List, [], ◌∷◌, length, refl, sym, ap, ◌∙◌, subst, arith}
 use Rattle.std.specs.Prelude.{Option, Some, None, IsSome, is_some, slice_get, option_and_then, ℤ, pos}
 use Rattle.std.proofs.lemmas.Bool.{false≢true}
 use Rattle.fut_base.specs.declared.record.Value.{Value}
 use Rattle.fut_base.specs.declared.event.Event.{Event}
-use Rattle.fut_base.specs.declared.event.Action.{Action}
 use Rattle.fut_base.specs.declared.event.Action.TheVariants.{Reads, Writes, Spawns, Creates, Syncs, Gets, Ends}
 use Rattle.fut_syntax.specs.Trees as tree
-use Rattle.task_machine.specs.State.{TaskState, ToRead, ToWrite, ToSpawn, ToCreate, ToSync, ToGet, ToEnd, wish_of, Answers}
+use Rattle.task_machine.specs.State.{TaskState, ToRead, ToSpawn, ToCreate, wish_of}
 use Rattle.task_machine.specs.Runs.{StandsWithin, StandsAt}
 use Rattle.task_machine.specs.Texts.{cell_count}
-use Rattle.task_machine.specs.Machine.{Machine, Running, opening, ended_with, AllHaveEnded, Permits}
+use Rattle.task_machine.specs.Machine.{Machine, Running, opening, ended_with, AllHaveEnded}
 use Rattle.task_code.specs.Flat.{Compiled}
 use Rattle.task_code.specs.Tasks.{Wishes}
-use Rattle.task_code.specs.declared.task.Wish as asked
 use Rattle.task_code.specs.declared.task.Wish.TheVariants as wish
 use Rattle.run_replay.specs.declared.line.Line.{Line}
-use Rattle.run_replay.specs.Replays.{ReplayNow, IsLineOf, AreLinesOf, IsReplayOf, CanAct, IsFree, IsBarred, value_at, HaveEnded, RunsStill}
+use Rattle.run_replay.specs.Replays.{ReplayNow, AreLinesOf, IsReplayOf, CanAct, IsFree, value_at, HaveEnded, RunsStill}
 use Rattle.run_laws.proofs.Stuck.{ReadsBelow, wish_below, cells_from, replicate_length}
 use Rattle.run_laws.proofs.Typed.{well_typed_has_cells}
 use Rattle.run_replay.proofs.Lining.{line_of_task, count_lines, some_same, item_at}
@@ -70,7 +68,6 @@ module _ (P : tree.Program) (code : Compiled) (h : List Event) (now : ReplayNow)
       some : (o : Option Value) → is_some o ≡ true → (v : Value) × (o ≡ Some v)
       some None k = absurd (false≢true k)
       some (Some v) k = (v, refl)
-
 
 -- ---- the action that answers a wish
 

@@ -1,23 +1,19 @@
 -- A run beside the machine of the definitions.
-use Rattle.std.specs.Prelude.{◌≡◌, ℕ, ◌+◌, ◌*◌, ◌<◌, ◌≤◌, Bool, true, false, not, ◌⊎◌, List, [], ◌∷◌, ◌++◌, length, reverse, slice_get, slice_set, Option, Some, None, is_some, IsSome, ℤ, vec_len, vec_capacity}
+use Rattle.std.specs.Prelude.{◌≡◌, ℕ, ◌+◌, ◌*◌, ◌<◌, ◌≤◌, Bool, true, false, not, List, [], ◌∷◌, ◌++◌, length, reverse, slice_get, slice_set, Option, Some, None, is_some, IsSome, ℤ, vec_len, vec_capacity}
 use Rattle.fut_base.specs.declared.record.Value.{Value}
 use Rattle.fut_base.specs.declared.event.Event.{Event}
 use Rattle.fut_base.specs.declared.event.Action.{Action}
 use Rattle.fut_base.specs.declared.event.Action.TheVariants.{Spawns, Creates}
-use Rattle.fut_base.specs.declared.record.Finish.{Finish}
-use Rattle.fut_base.specs.declared.record.Finish.TheVariants as finish
-use Rattle.fut_base.specs.declared.record.Limits.{Limits}
-use Rattle.fut_base.specs.Events.{event_of}
-use Rattle.fut_base.specs.Dag.{block_after, ends}
+use Rattle.fut_base.specs.Dag.{block_after}
 use Rattle.fut_base.specs.Sound.{value_by, strands_by}
 use Rattle.fut_syntax.specs.Trees as tree
 use Rattle.fut_check.specs.Items.{IsWellTyped}
-use Rattle.task_machine.specs.State.{TaskState, Wish, ToSync, ToGet, wish_of, effect_of, start_state, Answers}
-use Rattle.task_machine.specs.Runs.{StandsAt, IsOutOfSteps}
-use Rattle.task_machine.specs.Machine.{Machine, Running, opening, ended_with, AllHaveEnded, Permits, strand_after, cells_after, IsStep, Leads, EachEnded, IsAllowed, IsRunning, creates, create_count, WishesCreate, FinishHolds}
+use Rattle.task_machine.specs.State.{TaskState, wish_of, effect_of, start_state, Answers}
+use Rattle.task_machine.specs.Runs.{StandsAt}
+use Rattle.task_machine.specs.Machine.{Machine, Running, opening, ended_with, AllHaveEnded, Permits, strand_after, cells_after, Leads, creates, create_count}
 use Rattle.task_types.specs.Typed.{ArgsFit, ActionFits, any_future}
 use Rattle.task_code.specs.Flat.{Compiled, IsCodeOf}
-use Rattle.task_code.specs.Tasks.{TaskNow, IsTaskOf, IsStill, Wishes}
+use Rattle.task_code.specs.Tasks.{TaskNow, IsTaskOf, IsStill}
 use Rattle.task_code.specs.declared.task.Wish as asked
 use Rattle.task_code.specs.declared.task.Wish.TheVariants as wish
 use Rattle.run_laws.specs.Ready.{ready_by, ready_of}

@@ -2,11 +2,8 @@
 #![tactic(auto)]
 
 mod copies;
-
 pub mod line;
+mod ready;
 pub mod replay;
 pub mod serial;
 mod table;
-
-mod ready;
-

@@ -16,7 +16,7 @@ ghost use Rattle.run_replay.specs.Next.{Goes, is_create, IsBar, IsNext, MayGo};
 ghost use Rattle.run_replay.specs.Replays.{HaveEnded, is_running, RunsStill, value_at, CanAct, IsBarred, IsEvent, IsFree, IsReplayOf, IsSomeReplay, RunsAt, StandsStill, StillAt, Takes};
 
 use crate::copies::copy_of;
-use crate::line::{begin, begin_child, Line};
+use crate::line::{Line, begin, begin_child};
 use crate::ready::reorder;
 use crate::table::{commit, creates_of, give_room, strands_of, write};
 use fut_base::list::{Listing, NoMemory};
@@ -32,17 +32,11 @@ const MOST_STEPS: u32 = 1_000_000;
 /// What the next event of a task is, or why there is none.
 #[derive(Drop)]
 pub enum Next {
-    Made {
-        entry: Entry,
-    },
+    Made { entry: Entry },
     /// It waits for its children, or for this future.
-    Waits {
-        future: Option<u32>,
-    },
+    Waits { future: Option<u32> },
     Idle,
-    Spent {
-        finish: Finish,
-    },
+    Spent { finish: Finish },
     NoMemory,
 }
 

@@ -44,12 +44,7 @@ fn turn(
 }
 
 /// The run with its races.
-fn finished(
-    alloc: Global,
-    run: &Replay,
-    history: History,
-    finish: Finish,
-) -> Result<Ran, NoMemory>
+fn finished(alloc: Global, run: &Replay, history: History, finish: Finish) -> Result<Ran, NoMemory>
     requires { length history.items ≤ 1000000 }
     ensures run { IfOk result (λ ran. (events_of ran.history ≡ events_of history) × (ran.finish ≡ finish) × (ran.cells.items ≡ run.now.cells)) }
     ensures races { IfOk result (λ ran. IsReport (events_of ran.history) ran.races.items) }

@@ -5,7 +5,7 @@ ghost use Rattle.fut_base.specs.Sound.{strands_by};
 ghost use Rattle.task_machine.specs.Machine.{cells_after, creates};
 ghost use Rattle.run_replay.specs.Replays.{ActsAt, creates_by, HasRoomAt, KeepsLineAt, StillAt};
 
-use crate::line::{act_as, make_room, Line};
+use crate::line::{Line, act_as, make_room};
 use fut_base::list::NoMemory;
 use fut_base::record::{Act, Entry};
 use task_code::code::Code;

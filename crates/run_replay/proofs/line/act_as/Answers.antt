@@ -1,4 +1,4 @@
-use Rattle.std.proofs.Common.{◌≡◌, ◌∙◌, ap, refl, sym, subst}
+use Rattle.std.proofs.Common.{◌∙◌, ap, sym, subst}
 use Rattle.fut_base.specs.Events.{action_of}
 use Rattle.task_code.specs.declared.task.Spot.{Spot}
 use Rattle.task_code.specs.Tasks.{IsStill}

@@ -1,4 +1,4 @@
-use Rattle.std.proofs.Common.{◌≡◌, [], ◌∷◌, refl, sym, subst}
+use Rattle.std.proofs.Common.{[], ◌∷◌, refl, sym, subst}
 use Rattle.fut_base.specs.Events.{action_of}
 use Rattle.run_replay.specs.Replays.{AreBegun}
 use Rattle.run_replay.proofs.line.begin_child.Goals as goal

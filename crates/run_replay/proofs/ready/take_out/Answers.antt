@@ -1,4 +1,4 @@
-use Rattle.std.proofs.Common.{◌≡◌, ap, ◌∙◌, subst}
+use Rattle.std.proofs.Common.{ap, ◌∙◌, subst}
 use Rattle.std.specs.Prelude.{reverse}
 use Rattle.run_replay.specs.Ready.{IsLastPlace, IsAbsent}
 use Rattle.run_replay.proofs.Readying.{out_turned, out_absent}

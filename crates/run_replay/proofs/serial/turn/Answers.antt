@@ -1,4 +1,4 @@
-use Rattle.std.proofs.Common.{◌≡◌, [], ◌∷◌, ◌++◌, ◌∙◌, ap, refl, sym, subst, length}
+use Rattle.std.proofs.Common.{◌∙◌, ap, sym, subst, length}
 use Rattle.std.specs.Prelude.{map}
 use Rattle.fut_base.specs.Events.{event_of, events_of}
 use Rattle.fut_base.specs.declared.record.Finish.TheVariants as finish
@@ -29,12 +29,14 @@ returns-in-Made c =
     let code = c.args.code.now in
     let h = events_of c.args.history.now in
     let e = c.in-Made.entry in
-    let added = event_added c.args.history.now.items c.reserve.new.self.items c.push.new.self.items e c.reserve.ensures.items c.push.ensures.items in
-    (ap length added ∙ longer h (event_of e), λ P typed of. (
-      let x = c.requires.runs P typed of in
-      let first = c.in-Some.ensures P code h x.machine x.replay in
-      subst (λ g. Runs P code c.args.limits g c.event.new.self) (sym added)
-      (runs_further P code c.args.limits h c.args.run.now c.event.new.self x c.in-Some.task first.0 (event_of e) first.1 (c.in-Made.ensures P h x.machine x.replay))))
+    let added = event_added c.args.history.now.items c.reserve.new.self.items c.push.new.self.items e c.reserve.ensures.items c.push.ensures.items in (
+      ap length added ∙ longer h (event_of e),
+      λ P typed of. (
+          let x = c.requires.runs P typed of in
+          let first = c.in-Some.ensures P code h x.machine x.replay in
+          subst (λ g. Runs P code c.args.limits g c.event.new.self) (sym added)
+          (runs_further P code c.args.limits h c.args.run.now c.event.new.self x c.in-Some.task first.0 (event_of e) first.1 (c.in-Made.ensures P h x.machine x.replay))),
+    )
 
 pub unreachable-requires : goal.unreachable-requires
 unreachable-requires c =

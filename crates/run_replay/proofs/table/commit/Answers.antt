@@ -1,5 +1,5 @@
-use Rattle.std.proofs.Common.{◌≡◌, [], ◌∷◌, ◌++◌, ◌<◌, ◌∙◌, ap, refl, sym, subst, length}
-use Rattle.std.specs.Prelude.{slice_get, slice_set, Some, option_to_list}
+use Rattle.std.proofs.Common.{◌++◌, ◌∙◌, ap, refl, sym, length}
+use Rattle.std.specs.Prelude.{slice_set, option_to_list}
 use Rattle.std.proofs.lemmas.Option.{slice_get_read}
 use Rattle.std.proofs.lemmas.List.{append-nil}
 use Rattle.run_replay.proofs.table.commit.Goals as goal

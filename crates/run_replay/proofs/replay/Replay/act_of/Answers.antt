@@ -1,10 +1,9 @@
-use Rattle.std.proofs.Common.{◌≡◌, ◌+◌, ◌<◌, ◌∙◌, ap, refl, sym, subst, length, inl, inr, arith, rules}
-use Rattle.std.specs.Prelude.{slice_get, Some}
+use Rattle.std.proofs.Common.{◌≡◌, ◌+◌, ◌∙◌, ap, sym, subst, length, inl, inr, arith, rules}
+use Rattle.std.specs.Prelude.{Some}
 use mir.Val.{to_z, of_z}
 use Rattle.std.specs.Int.{w64}
 use Rattle.std.proofs.lemmas.Int.{ints}
-use Rattle.run_replay.specs.contracts.replay.Replay.{the_view}
-use Rattle.run_replay.specs.Replays.{ReplayNow, IsReplayOf, IsFree}
+use Rattle.run_replay.specs.Replays.{ReplayNow, IsFree}
 use Rattle.task_code.specs.Tasks.{Wishes}
 use Rattle.run_replay.proofs.Waiting.{can_read, can_spawn, can_create, can_get, got}
 use Rattle.run_replay.proofs.replay.Replay.act_of.Goals as goal

@@ -1,11 +1,9 @@
-use Rattle.std.proofs.Common.{◌≡◌, ◌<◌, ◌∙◌, ap, refl, sym, subst, length, inl, inr}
-use Rattle.std.specs.Prelude.{slice_get, Some}
+use Rattle.std.proofs.Common.{◌≡◌, ◌∙◌, refl, sym, subst, length, inl, inr}
 use Rattle.std.proofs.lemmas.Option.{slice_get_read}
 use Rattle.task_machine.proofs.Places.{get_below}
 use Rattle.task_machine.specs.Machine.{Running}
 use Rattle.task_machine.specs.Runs.{StandsAt}
-use Rattle.run_replay.specs.contracts.replay.Replay.{the_view}
-use Rattle.run_replay.specs.Replays.{ReplayNow, StillAt, IsSomeReplay, IsReplayOf}
+use Rattle.run_replay.specs.Replays.{ReplayNow, StillAt, IsReplayOf}
 use Rattle.run_replay.proofs.Lining.{task_of_line, some_same}
 use Rattle.task_code.specs.Tasks.{IsStill}
 use Rattle.run_replay.specs.declared.line.Line.{Line}

@@ -1,4 +1,4 @@
-use Rattle.std.proofs.Common.{◌≡◌, ◌<◌, ◌≤◌, ◌∙◌, ap, refl, sym, subst, length, arith, true}
+use Rattle.std.proofs.Common.{◌≡◌, ◌<◌, ◌≤◌, ◌∙◌, ap, refl, subst, length, true}
 use Rattle.task_machine.specs.Machine.{create_count}
 use Rattle.run_replay.specs.Next.{is_create}
 use Rattle.run_replay.specs.Replays.{ReplayNow}

@@ -1,4 +1,4 @@
-use Rattle.std.proofs.Common.{◌≡◌, ◌<◌, ◌≤◌, ◌∙◌, ap, refl, sym, subst, length, arith, true, false}
+use Rattle.std.proofs.Common.{◌∙◌, sym, arith}
 use Rattle.fut_base.specs.Events.{event_of}
 use Rattle.task_machine.proofs.Places.{get_below}
 use Rattle.run_replay.proofs.Answering.{idle, running_task, runs_at, bar_next, made_of}

@@ -1,4 +1,3 @@
-use Rattle.std.proofs.Common.{◌≡◌}
 use Rattle.fut_base.specs.Events.{action_of, event_of}
 use Rattle.run_replay.proofs.Answering.{goes, if_ok}
 use Rattle.run_replay.proofs.replay.Replay.go.Goals as goal

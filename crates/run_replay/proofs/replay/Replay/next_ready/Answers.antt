@@ -1,5 +1,5 @@
-use Rattle.std.proofs.Common.{◌≡◌, ◌+◌, ◌-◌, ◌<◌, ◌∙◌, [], ap, refl, sym, subst, length, arith}
-use Rattle.std.specs.Prelude.{slice_get, Some, reverse, vec_len}
+use Rattle.std.proofs.Common.{◌≡◌, ◌+◌, ◌-◌, ◌∙◌, ap, refl, sym, length, arith}
+use Rattle.std.specs.Prelude.{reverse}
 use Rattle.std.proofs.lemmas.Option.{slice_get_read}
 use Rattle.run_laws.proofs.Ready.{ready_is_first, none_is_ready}
 use Rattle.run_replay.specs.Replays.{ReplayNow}

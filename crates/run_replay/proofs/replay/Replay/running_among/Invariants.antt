@@ -1,6 +1,5 @@
 use Rattle.std.proofs.Common.{◌≡◌, ℕ, ◌≤◌, true, length}
 use Rattle.std.specs.Prelude.{slice_get, Some, is_some}
-use Rattle.run_replay.specs.contracts.replay.Replay.{the_view}
 use Rattle.run_replay.specs.Replays.{value_at}
 use Rattle.run_replay.proofs.replay.Replay.running_among.Given as goal
 

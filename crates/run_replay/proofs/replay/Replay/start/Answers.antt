@@ -1,4 +1,4 @@
-use Rattle.std.proofs.Common.{◌≡◌, [], ◌∷◌, ◌++◌, ◌∙◌, ap, refl, sym, subst, replicate}
+use Rattle.std.proofs.Common.{◌≡◌, [], ◌∷◌, ◌++◌, ◌∙◌, ap, refl, subst, replicate}
 use Rattle.std.specs.Prelude.{pos}
 use Rattle.run_replay.specs.Replays.{Begins}
 use Rattle.run_replay.proofs.Starting.{begins_run}

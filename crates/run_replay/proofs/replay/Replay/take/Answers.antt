@@ -1,5 +1,5 @@
-use Rattle.std.proofs.Common.{◌≡◌, ◌+◌, ◌<◌, ◌∙◌, ap, refl, sym, subst, length}
-use Rattle.std.specs.Prelude.{slice_get, Some, option_to_list, reverse}
+use Rattle.std.proofs.Common.{◌+◌, ◌<◌, ◌∙◌, ap, refl, sym, subst, length}
+use Rattle.std.specs.Prelude.{option_to_list}
 use Rattle.std.proofs.lemmas.Option.{slice_get_read}
 use Rattle.fut_base.specs.Events.{action_of, event_of}
 use Rattle.run_replay.specs.contracts.replay.Replay.{the_view}
