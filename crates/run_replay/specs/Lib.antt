@@ -1,0 +1,4 @@
+pub mod Next
+pub mod Ready
+pub mod Replays
+pub mod Serials
