@@ -113,3 +113,8 @@ judged a c text status.ReadFault h races printed words read o = absurd o
 judged a c text status.WriteFault h races printed words read o = absurd o
 judged a c text status.Usage h races printed words read o = absurd o
 judged a c text status.TooLong h races printed words read o = absurd o
+
+-- the code is of some well-typed program
+pub some_program : (o : Option tree.Program) (code : Compiled) → ((P : tree.Program) → o ≡ Some P → IsCodeOf P code) → IsSomeAnd o IsWellTyped → (P : tree.Program) × IsWellTyped P × IsCodeOf P code
+some_program None code of typed = absurd typed
+some_program (Some P) code of typed = (P, typed, of P refl)

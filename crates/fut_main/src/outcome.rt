@@ -15,7 +15,7 @@ use fut_base::record::{Finish, History, Limits, Races, Text};
 use fut_check::{CheckFault, Checked, check};
 use fut_syntax::tree::Program;
 use fut_syntax::{ParseFault, parse, print};
-use run_replay::serial;
+use run_replay::serial::serial;
 use std::alloc::Global;
 use task_code::code::Code;
 
