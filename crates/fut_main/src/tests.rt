@@ -395,7 +395,7 @@ fn plain_makes_no_runs_on_workers(rt: HostRuntime) -> Result<(), Fail> {
         let mut source = MemSource::make(alloc, b"task main() int { return 0; }", 16, &[])?;
         let mut out = MemSink::make(alloc, 1000, 16, &[])?;
         let answer = plain(alloc, &words, &mut source, &mut out);
-        assert_eq!(rt; answer.status, status, "{word}");
+        assert_eq!(rt; answer.status, status);
     }
     Ok(())
 }
