@@ -7,3 +7,5 @@ pub mod Asking
 pub mod Waiting
 pub mod Answering
 pub mod Serially
+pub mod Sameness
+pub mod Only

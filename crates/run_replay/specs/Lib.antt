@@ -2,3 +2,4 @@ pub mod Next
 pub mod Ready
 pub mod Replays
 pub mod Serials
+pub mod Steps

@@ -129,6 +129,10 @@ RunsAt lines t = (line : Line) × (slice_get lines t ≡ Some line) × (line.tas
 abbrev pub StillAt : Compiled → List Line → ℕ → Type 0
 StillAt code lines t = (line : Line) × (slice_get lines t ≡ Some line) × (line.task.spot.ended ≡ false) × IsStill code line.task
 
+-- a task that exists, on this strand
+abbrev pub IsOn : List Line → ℕ → ℕ → Type 0
+IsOn lines t strand = (line : Line) × (slice_get lines t ≡ Some line) × (line.strand ≡ strand)
+
 abbrev pub is_running : Option Line → Bool
 is_running None = false
 is_running (Some line) = not (is_some line.value)

@@ -5,5 +5,7 @@ mod copies;
 pub mod line;
 mod ready;
 pub mod replay;
+mod same;
 pub mod serial;
+pub mod step;
 mod table;

@@ -1,5 +1,5 @@
 //! A run: its events one after the other.
-ghost use Rattle.std.specs.Prelude.{◌≡◌, ◌<◌, ◌≤◌, ◌+◌, ◌*◌, ◌^◌, ℕ, ℤ, true, false, ◌⊎◌, List, [], length, slice_get, Some, None, IfOk, OnErr, OnOk, MatchOption};
+ghost use Rattle.std.specs.Prelude.{◌≡◌, ◌↔◌, IsTrue, ◌<◌, ◌≤◌, ◌+◌, ◌*◌, ◌^◌, ℕ, ℤ, true, false, ◌⊎◌, List, [], length, slice_get, Some, None, IfOk, OnErr, OnOk, MatchOption};
 ghost use Rattle.fut_base.specs.declared.event.Event.{Event};
 ghost use Rattle.fut_base.specs.Events.{action_of, event_of};
 ghost use Rattle.fut_syntax.specs.Trees as tree;
@@ -13,7 +13,7 @@ ghost use Rattle.task_code.specs.Tasks.{Wishes};
 ghost use Rattle.task_code.specs.declared.task.Wish.TheVariants as asked;
 ghost use Rattle.run_laws.specs.Laws.{IsFirst};
 ghost use Rattle.run_replay.specs.Next.{Goes, is_create, IsBar, IsNext, MayGo};
-ghost use Rattle.run_replay.specs.Replays.{HaveEnded, is_running, RunsStill, value_at, CanAct, IsBarred, IsEvent, IsFree, IsReplayOf, IsSomeReplay, RunsAt, StandsStill, StillAt, Takes};
+ghost use Rattle.run_replay.specs.Replays.{HaveEnded, IsOn, is_running, RunsStill, value_at, CanAct, IsBarred, IsEvent, IsFree, IsReplayOf, IsSomeReplay, RunsAt, StandsStill, StillAt, Takes};
 
 use crate::copies::copy_of;
 use crate::line::{Line, begin, begin_child};
@@ -61,7 +61,7 @@ impl Model for Replay {
 }
 
 /// Whether a task goes on with local steps for too long.
-fn is_long(wish: Wish) -> bool
+pub(crate) fn is_long(wish: Wish) -> bool
     ensures long { result ≡ true → wish ≡ asked.Long }
     ensures event { result ≡ false → IsEvent wish }
 {
@@ -127,7 +127,7 @@ impl Replay {
     }
 
     /// Whether a task exists and has not ended.
-    fn runs(&self, task: u32) -> bool
+    pub(crate) fn runs(&self, task: u32) -> bool
         ensures { result ≡ is_running (slice_get self.now.lines task) }
     {
         match self.lines.get(task as usize) {
@@ -136,8 +136,18 @@ impl Replay {
         }
     }
 
+    /// Whether a task stands on this strand.
+    pub(crate) fn is_on(&self, task: u32, strand: u32) -> bool
+        ensures { IsTrue result ↔ IsOn self.now.lines task strand }
+    {
+        match self.lines.get(task as usize) {
+            Some(line) => line.strand == strand,
+            None => false,
+        }
+    }
+
     /// What a task wishes to do next.
-    fn ask(&mut self, code: &Code, task: u32) -> Wish
+    pub(crate) fn ask(&mut self, code: &Code, task: u32) -> Wish
         requires known { IsSomeReplay code.now self.old }
         requires running { RunsAt self.old.lines task }
         ensures still { StandsStill code.now self.old self.new }
@@ -175,7 +185,7 @@ impl Replay {
     }
 
     /// What a wish waits for: the children of its task, as `Some(None)`, or a future.
-    fn waits(&self, task: u32, wish: Wish) -> Option<Option<u32>>
+    pub(crate) fn waits(&self, task: u32, wish: Wish) -> Option<Option<u32>>
         requires exists { task < length self.now.lines }
         ensures { (P : tree.Program) (code : Compiled) (h : List Event) (m : Machine) (r : Running) → IsReplayOf P code h self.now m → slice_get m.tasks task ≡ Some r → MatchOption result (IsFree m r wish) (λ future. IsBarred m r wish future) }
     {
@@ -210,7 +220,7 @@ impl Replay {
     }
 
     /// The act that answers a wish which waits for nothing.
-    fn act_of(&self, code: &Code, task: u32, wish: Wish) -> Result<Act, NoMemory>
+    pub(crate) fn act_of(&self, code: &Code, task: u32, wish: Wish) -> Result<Act, NoMemory>
         requires known { IsSomeReplay code.now self.now }
         requires still { StillAt code.now self.now.lines task }
         requires event { IsEvent wish }
@@ -272,7 +282,7 @@ impl Replay {
     }
 
     /// Takes an act of a task.
-    fn take(&mut self, code: &Code, task: u32, act: Act) -> Result<Entry, NoMemory>
+    pub(crate) fn take(&mut self, code: &Code, task: u32, act: Act) -> Result<Entry, NoMemory>
         requires exists { task < length self.old.lines }
         requires still { StillAt code.now self.old.lines task }
         requires few { self.old.entries + 1 < 2 ^ 32 }
