@@ -53,9 +53,9 @@ not_too_long a t u gave =
 
 pub complete : (a : Asked) (t : Told) (s : Status) (h : List Event) (text : List ℕ) → IsVerdict a s h text → IsUnhindered a t → IsFree a s
 complete a t status.Accepted h text v u = v.0
-complete a t status.Clean h text v u = v.words
-complete a t status.Raced h text v u = v.words
-complete a t (status.Spent end) h text v u = v.words
+complete a t status.Clean h text v u = (v.bound, v.words)
+complete a t status.Raced h text v u = (v.bound, v.words)
+complete a t (status.Spent end) h text v u = (v.bound, v.words)
 complete a t (status.Syntax line column) h text v u = absurd (no_syntax v.bytes u.tree (record { line = line; column = column }) (read_is a t u v.bytes v.read) v.holds)
 complete a t (status.IllTyped rule line column) h text v u = absurd (no_fault v.bytes u.tree rule (record { line = line; column = column }) (read_is a t u v.bytes v.read) v.holds)
 complete a t status.ReadFault h text v u = absurd (u.source_quiet v.4)
@@ -63,4 +63,3 @@ complete a t status.WriteFault h text v u = absurd v
 complete a t status.NoMemory h text v u = tt
 complete a t status.Usage h text v u = absurd (v.0 u.command u.words)
 complete a t status.TooLong h text v u = absurd (not_too_long a t u v.3)
-complete a t status.Unbuilt h text v u = v.0

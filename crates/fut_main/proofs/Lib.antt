@@ -1,8 +1,5 @@
+pub mod Bounds
 pub mod Completing
 pub mod Consuming
 pub mod Endings
-pub mod Feeding
-pub mod Lines
 pub mod PieceLemmas
-pub mod Serially
-pub mod Steps

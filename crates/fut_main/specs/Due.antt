@@ -28,4 +28,3 @@ verdict_text status.WriteFault program h races printed = []
 verdict_text status.NoMemory program h races printed = codes "no memory\n"
 verdict_text status.Usage program h races printed = codes "usage: forder run, serial, replay, check or load\n"
 verdict_text status.TooLong program h races printed = codes "too long\n"
-verdict_text status.Unbuilt program h races printed = codes "not built\n"

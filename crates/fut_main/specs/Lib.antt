@@ -5,5 +5,4 @@ pub mod Outcomes
 pub mod Pieces
 pub mod Reading
 pub mod RunText
-pub mod Serial
 pub mod Verdict

@@ -15,4 +15,3 @@ status_number status.WriteFault = 7
 status_number status.NoMemory = 8
 status_number status.Usage = 9
 status_number status.TooLong = 10
-status_number status.Unbuilt = 11

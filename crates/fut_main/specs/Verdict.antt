@@ -1,9 +1,10 @@
 -- What `forder` and `plain` answer, and why.
-use Rattle.std.specs.Prelude.{◌≡◌, ◌≢◌, ℕ, ◌+◌, ◌≤◌, true, List, [], ◌∷◌, ◌++◌, length, codes, slice_get, Option, Some, ◌⊎◌}
+use Rattle.std.specs.Prelude.{◌≡◌, ◌≢◌, ℕ, ◌+◌, ◌≤◌, true, List, [], ◌∷◌, ◌++◌, length, codes, slice_get, Option, Some, ◌⊎◌, ℤ}
 use Rattle.std.specs.Io.KnownBytes.{Appends, Consumes, IsAtEnd}
 use Rattle.fut_base.specs.declared.event.Event.{Event}
 use Rattle.fut_base.specs.declared.record.Race.{Race}
 use Rattle.fut_base.specs.declared.record.Finish.{Finish}
+use Rattle.fut_base.specs.declared.record.Limits.{Limits}
 use Rattle.fut_base.specs.declared.record.Finish.TheVariants as finish
 use Rattle.fut_base.specs.Ports.{Rose, AppendsPart}
 use Rattle.fut_base.specs.Racing.{IsReport}
@@ -12,12 +13,11 @@ use Rattle.fut_syntax.specs.declared.token.Token.{Token}
 use Rattle.fut_syntax.specs.Trees as tree
 use Rattle.fut_syntax.specs.Lexed.{IsTokensOf}
 use Rattle.fut_syntax.specs.Lines.{canonical_text}
-use Rattle.fut_syntax.specs.Small.{IsSmall}
 use Rattle.fut_syntax.specs.Texts.{IsProgram, IsFaultPlace}
 use Rattle.fut_check.specs.declared.fault.Fault.{Fault}
 use Rattle.fut_check.specs.Faults.{rule_number}
 use Rattle.fut_check.specs.Items.{IsWellTyped, IsFirstFault}
-use Rattle.task_machine.specs.Machine.{Machine, opening, Leads, IsLegal, IsWhole, IsAllowed, FinishHolds}
+use Rattle.run_replay.specs.Serials.{IsSerialRun}
 use Rattle.fut_main.specs.Asking.{Asked, Asks}
 use Rattle.fut_main.specs.Due.{syntax_text, type_text}
 use Rattle.fut_main.specs.RunText.{run_text}
@@ -67,43 +67,36 @@ IsPrinted bytes printed = (P : tree.Program) × IsWellTypedText bytes P × (prin
 
 -- ---- runs
 
--- a history is a legal execution of a program, of at most 1,000 entries, and these are its races
-pub record IsRunOf (P : tree.Program) (h : List Event) (races : List Race) : Type 0 where
-  pub legal : IsLegal P h
-  pub bounded : length h ≤ 1000
+-- the limits of a run of so many entries
+abbrev pub limits_of : ℕ → Limits
+limits_of bound = record { events = bound; local_steps = 1000000; futures = 4096 }
+
+-- a history is the serial run of a program up to so many entries, which ended so, and these are its races
+pub record IsRunOf (P : tree.Program) (bound : ℕ) (h : List Event) (end : Finish) (races : List Race) : Type 0 where
+  pub cells : List ℤ
+  pub run : IsSerialRun P (limits_of bound) h end cells
   pub report : IsReport h races
 
--- after the history some task may go on
-abbrev pub MayGoOn : tree.Program → List Event → Type 0
-MayGoOn P h = (m : Machine) × Leads P (opening P) h m × ((t : ℕ) × IsAllowed P m t)
-
--- a run was spent: it is not whole, and this is why it ended
-pub record IsSpent (P : tree.Program) (h : List Event) (end : Finish) : Type 0 where
-  pub unfinished : IsWhole P h → ⊥
-  pub bound : end ≡ finish.Events 1000
-  pub holds : FinishHolds P h end
-  pub may_go_on : MayGoOn P h
-
 -- how the run of a program ended: whole without a race, whole with one, or spent
-abbrev pub EndsIn : tree.Program → Status → List Event → List Race → Type 0
-EndsIn P status.Clean h races = IsRunOf P h races × IsWhole P h × (races ≡ [])
-EndsIn P status.Raced h races = IsRunOf P h races × IsWhole P h × (races ≢ [])
-EndsIn P (status.Spent end) h races = IsRunOf P h races × IsSpent P h end
-EndsIn P _ h races = ⊥
+abbrev pub EndsIn : tree.Program → ℕ → Status → List Event → List Race → Type 0
+EndsIn P bound status.Clean h races = IsRunOf P bound h finish.Whole races × (races ≡ [])
+EndsIn P bound status.Raced h races = IsRunOf P bound h finish.Whole races × (races ≢ [])
+EndsIn P bound (status.Spent end) h races = IsRunOf P bound h end races × (end ≢ finish.Whole)
+EndsIn P bound _ h races = ⊥
 
 -- ---- verdicts
 
--- the words ask for a run, all the source's bytes were read, they are a small program that breaks no type rule, its run
--- ended so, and the record of that run is due
+-- the words ask for a run, all the source's bytes were read, they are a program that breaks no type rule, its run ended
+-- so, and the record of that run is due
 pub record IsOfRun (a : Asked) (s : Status) (end : Finish) (h : List Event) (text : List ℕ) : Type 0 where
-  pub words : Asks a command.Run
+  pub bound : ℕ
+  pub words : Asks a (command.Run bound)
   pub bytes : List ℕ
   pub read : IsRead a bytes
   pub tree : tree.Program
   pub program : IsWellTypedText bytes tree
-  pub small : IsSmall tree
   pub races : List Race
-  pub ends : EndsIn tree s h races
+  pub ends : EndsIn tree bound s h races
   pub record_due : text ≡ run_text bytes h races end
 
 -- the words ask for one of the commands, no run was made, and this is due; all the source's bytes were read, and this
@@ -130,9 +123,6 @@ IsVerdict a (status.Syntax line column) h text =
 -- the text is a program, and breaks a type rule
 IsVerdict a (status.IllTyped rule line column) h text =
     IsOfText a h text (type_text rule line column) (λ bytes. IsIllTypedText bytes rule (record { line = line; column = column }))
--- the text is a program that breaks no type rule and is not small
-IsVerdict a status.Unbuilt h text =
-    Asks a command.Run × IsOfText a h text (codes "not built\n") (λ bytes. (P : tree.Program) × IsWellTypedText bytes P × (IsSmall P → ⊥))
 -- the source gave 1,048,577 bytes
 IsVerdict a status.TooLong h text = ((c : Command) × Asks a c) × (h ≡ []) × (text ≡ codes "too long\n") × GaveTooMuch a
 -- a take failed
@@ -174,13 +164,16 @@ abbrev pub IsAnswer : Asked → Told → Status → List Event → Type 0
 IsAnswer a t status.WriteFault h = IsCutOff a t h
 IsAnswer a t s h = IsAnswered a t s h
 
+-- the words ask for a run
+abbrev pub AsksRun : Asked → Type 0
+AsksRun a = (bound : ℕ) × Asks a (command.Run bound)
+
 -- the answers to a well-typed program that nothing hinders
 abbrev pub IsFree : Asked → Status → Type 0
 IsFree a status.Accepted = Asks a command.Check
-IsFree a status.Clean = Asks a command.Run
-IsFree a status.Raced = Asks a command.Run
-IsFree a (status.Spent _) = Asks a command.Run
-IsFree a status.Unbuilt = Asks a command.Run
+IsFree a status.Clean = AsksRun a
+IsFree a status.Raced = AsksRun a
+IsFree a (status.Spent _) = AsksRun a
 IsFree a status.NoMemory = Unit {0}
 IsFree a _ = ⊥
 

@@ -74,7 +74,6 @@ impl Verdict {
             Status::NoMemory => write_text(out, b"no memory\n"),
             Status::Usage => write_text(out, b"usage: forder run, serial, replay, check or load\n"),
             Status::TooLong => write_text(out, b"too long\n"),
-            Status::Unbuilt => write_text(out, b"not built\n"),
         }
     }
 }

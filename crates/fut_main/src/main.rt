@@ -8,7 +8,6 @@ mod judge;
 mod outcome;
 mod pieces;
 mod run_text;
-mod serial;
 mod status;
 #[cfg(test)]
 mod tests;

@@ -1,28 +1,29 @@
 //! From the bytes of a text to what came of it.
 ghost use Rattle.std.specs.Prelude.{◌≡◌, ◌≤◌, [], length, IfOk, IfSome, IsSomeAnd};
 ghost use Rattle.fut_base.specs.Events.{events_of};
-ghost use Rattle.fut_syntax.specs.Small.{IsSmall};
 ghost use Rattle.fut_syntax.specs.Views.{program_tree};
 ghost use Rattle.fut_check.specs.Checks.{HasPlaces, IsChecked};
+ghost use Rattle.fut_main.specs.Asking.{IsBound, IsBounded};
 ghost use Rattle.fut_main.specs.Verdict.{EndsIn};
 ghost use Rattle.fut_main.specs.Outcomes.{OutcomeOf, IsOutcome, ending_of};
 ghost use Rattle.fut_main.specs.declared.words.Command.TheVariants as command;
 
-use crate::serial::run_serially;
 use crate::status::Status;
 use crate::words::Command;
 use fut_base::list::NoMemory;
-use fut_base::record::{Finish, History, Races, Text};
-use fut_check::{CheckFault, check};
+use fut_base::record::{Finish, History, Limits, Races, Text};
+use fut_check::{CheckFault, Checked, check};
 use fut_syntax::tree::Program;
 use fut_syntax::{ParseFault, parse, print};
-use race_report::found_of;
+use run_replay::serial::serial;
 use std::alloc::Global;
-use task_machine::code::Code;
-use task_machine::small::small;
+use task_code::code::Code;
 
-/// The greatest number of entries of a run.
-const BOUND: u32 = 1000;
+/// The greatest number of local steps of a task in a row.
+const MOST_STEPS: u32 = 1_000_000;
+
+/// The greatest number of futures that a run creates.
+const MOST_FUTURES: u32 = 4096;
 
 /// What came of a text: the status, the history of its run and its races, and the canonical text where it was printed.
 #[derive(Drop)]
@@ -50,7 +51,8 @@ impl Outcome {
 
 /// What comes of a text of at most 1,048,576 bytes.
 pub fn outcome_of(alloc: Global, command: Command, text: &[u8]) -> Outcome
-    requires { length text.now ≤ 1048576 }
+    requires short { length text.now ≤ 1048576 }
+    requires bounded { IsBounded command }
     ensures { IsOutcome command text.now result.status (events_of result.history) result.races.items result.printed.items }
 {
     match parse(alloc, text) {
@@ -65,13 +67,14 @@ pub fn outcome_of(alloc: Global, command: Command, text: &[u8]) -> Outcome
 
 /// What comes of a program: its type rules are checked first.
 fn outcome_of_program(alloc: Global, command: Command, program: &Program) -> Outcome
-    requires { HasPlaces program.now }
+    requires places { HasPlaces program.now }
+    requires bounded { IsBounded command }
     ensures { OutcomeOf command program.now result.status (events_of result.history) result.races.items result.printed.items }
 {
     match check(alloc, program) {
-        Ok(_) => match command {
+        Ok(checked) => match command {
             Command::Check => printed(alloc, program),
-            Command::Run => run_if_small(alloc, program),
+            Command::Run { events } => run(alloc, &checked, events),
         },
         Err(CheckFault::IllTyped { rule, line, column }) => {
             Outcome::without_run(alloc, Status::IllTyped { rule, line, column })
@@ -96,33 +99,34 @@ fn printed(alloc: Global, program: &Program) -> Outcome
     }
 }
 
-/// Runs a well-typed program, where it is small.
-fn run_if_small(alloc: Global, program: &Program) -> Outcome
-    requires { IsChecked program.now }
-    ensures { OutcomeOf command.Run program.now result.status (events_of result.history) result.races.items result.printed.items }
+/// Runs a well-typed program up to a number of entries.
+fn run(alloc: Global, checked: &Checked, events: u32) -> Outcome
+    requires { IsBound events }
+    ensures { OutcomeOf (command.Run events) checked.now.program.now result.status (events_of result.history) result.races.items result.printed.items }
 {
-    if !small(program) {
-        return Outcome::without_run(alloc, Status::Unbuilt);
-    }
-    match run_program(alloc, program) {
+    match run_program(alloc, checked, events) {
         Ok(outcome) => outcome,
         Err(NoMemory) => Outcome::without_run(alloc, Status::NoMemory),
     }
 }
 
-/// Runs a small program.
-fn run_program(alloc: Global, program: &Program) -> Result<Outcome, NoMemory>
-    requires { IsSomeAnd (program_tree program.now.items) IsSmall }
-    ensures { IfOk result (λ o. IfSome (program_tree program.now.items) (λ P. EndsIn P o.status (events_of o.history) o.races.items)) }
+/// The same, where there is memory.
+fn run_program(alloc: Global, checked: &Checked, events: u32) -> Result<Outcome, NoMemory>
+    requires { IsBound events }
+    ensures { IfOk result (λ o. IfSome (program_tree checked.now.program.now.items) (λ P. EndsIn P events o.status (events_of o.history) o.races.items)) }
 {
-    let code = Code::of(alloc, program)?;
-    let run = run_serially(alloc, &code, BOUND)?;
-    let races = found_of(alloc, &run.history)?;
-    let status = ending(run.finish, &races);
+    let code = Code::of(alloc, checked)?;
+    let limits = Limits {
+        events,
+        local_steps: MOST_STEPS,
+        futures: MOST_FUTURES,
+    };
+    let ran = serial(alloc, &code, limits)?;
+    let status = ending(ran.finish, &ran.races);
     Ok(Outcome {
         status,
-        history: run.history,
-        races,
+        history: ran.history,
+        races: ran.races,
         printed: Text::make(alloc),
     })
 }

@@ -25,8 +25,6 @@ pub enum Status {
     Usage,
     /// The text is longer than 1,048,576 bytes.
     TooLong,
-    /// The text is a well-typed program, but none that forder runs.
-    Unbuilt,
 }
 
 impl Status {
@@ -48,7 +46,6 @@ impl Status {
             Status::NoMemory => 8,
             Status::Usage => 9,
             Status::TooLong => 10,
-            Status::Unbuilt => 11,
         }
     }
 }

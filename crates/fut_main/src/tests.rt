@@ -13,6 +13,9 @@ use std::test::Fail;
 /// The words for a run.
 const RUN: [&str; 3] = ["run", "--workers", "1"];
 
+/// The words for a serial run.
+const SERIAL: [&str; 1] = ["serial"];
+
 /// The words for a check.
 const CHECK: [&str; 1] = ["check"];
 
@@ -85,11 +88,6 @@ fn records_of_runs(rt: HostRuntime) -> Result<(), Fail> {
             COMMENT_RECORD,
         ),
         (
-            "task main() int { return 1 + 1; }",
-            Status::Unbuilt,
-            "not built\n",
-        ),
-        (
             "task main() int { return x; }",
             Status::IllTyped {
                 rule: 1,
@@ -115,15 +113,115 @@ fn records_of_runs(rt: HostRuntime) -> Result<(), Fail> {
     Ok(())
 }
 
+/// The end of a record.
+fn ends_in(answer: &Answer, tail: &str) -> bool {
+    answer.text.as_slice().ends_with(tail.as_bytes())
+}
+
+#[test]
+fn worked_runs(rt: HostRuntime) -> Result<(), Fail> {
+    let cases = [
+        // a sync joins no future
+        (
+            "cells a[1]; task f() int { a[0] = 1; return 7; } task main() int { var h: fut int = create f(); sync; a[0] = 2; return 0; }",
+            "entries 6\n0 t0 s0 create 0 t1 s1 s2\n1 t1 s1 write 0 1\n2 t1 s1 end 7\n3 t0 s2 sync s3\n4 t0 s3 write 0 2\n5 t0 s3 end 0\nraces 1\nrace 0 1 4\nfinish whole\nend\n",
+        ),
+        (
+            "cells a[1]; task f() int { a[0] = 1; return 7; } task main() int { var h: fut int = create f(); var x: int = get h; a[0] = x; return 0; }",
+            "entries 6\n0 t0 s0 create 0 t1 s1 s2\n1 t1 s1 write 0 1\n2 t1 s1 end 7\n3 t0 s2 get f1 7 s3\n4 t0 s3 write 0 7\n5 t0 s3 end 0\nraces 0\nfinish whole\nend\n",
+        ),
+        // a path through two futures' ends
+        (
+            "cells a[1]; task one() int { a[0] = 1; return 1; } task two(h: fut int) int { var x: int = get h; return x; } task main() int { var h: fut int = create one(); var k: fut int = create two(h); var y: int = get k; a[0] = 2; return y; }",
+            "entries 9\n0 t0 s0 create 0 t1 s1 s2\n1 t1 s1 write 0 1\n2 t1 s1 end 1\n3 t0 s2 create 1 t2 s3 s4 f1\n4 t2 s3 get f1 1 s5\n5 t2 s5 end 1\n6 t0 s4 get f2 1 s6\n7 t0 s6 write 0 2\n8 t0 s6 end 1\nraces 0\nfinish whole\nend\n",
+        ),
+        // a future returns a handle
+        (
+            "task leaf() int { return 5; } task mid() fut int { var h: fut int = create leaf(); return h; } task main() int { var g: fut fut int = create mid(); var h: fut int = get g; var x: int = get h; return x; }",
+            "entries 7\n0 t0 s0 create 1 t1 s1 s2\n1 t1 s1 create 0 t2 s3 s4\n2 t2 s3 end 5\n3 t1 s4 end f2\n4 t0 s2 get f1 f2 s5\n5 t0 s5 get f2 5 s6\n6 t0 s6 end 5\nraces 0\nfinish whole\nend\n",
+        ),
+        // the latest partner
+        (
+            "cells a[1]; task rd() int { var x: int = a[0]; return x; } task wr() int { a[0] = 1; return 0; } task main() int { spawn rd(); spawn rd(); spawn rd(); spawn wr(); sync; return 0; }",
+            "13 t0 s9 end 0\nraces 1\nrace 0 7 10\nfinish whole\nend\n",
+        ),
+        (
+            "cells a[1]; task rd() int { var x: int = a[0]; sync; x = a[0]; return x; } task wr() int { a[0] = 1; return 0; } task main() int { spawn rd(); spawn wr(); sync; return 0; }",
+            "races 1\nrace 0 3 6\nfinish whole\nend\n",
+        ),
+        // one strand
+        (
+            "cells a[1]; task main() int { a[0] = 1; a[0] = 2; var x: int = a[0]; return x; }",
+            "entries 4\n0 t0 s0 write 0 1\n1 t0 s0 write 0 2\n2 t0 s0 read 0 2\n3 t0 s0 end 2\nraces 0\nfinish whole\nend\n",
+        ),
+        // division by zero, the least number, indexes below 0 and beyond the end
+        (
+            "cells a[4]; task main() int { a[-1] = 7 / 0; var m: int = -9223372036854775807 - 1; a[4] = m / -1; a[1] = m % -1; return 0; }",
+            "entries 4\n0 t0 s0 write 3 0\n1 t0 s0 write 0 -9223372036854775808\n2 t0 s0 write 1 0\n3 t0 s0 end 0\nraces 0\nfinish whole\nend\n",
+        ),
+        // endless local steps
+        (
+            "task main() int { while 1 { } return 0; }",
+            "entries 0\nraces 0\nfinish local 0\nend\n",
+        ),
+        // a body without `return` ends with 0
+        (
+            "task main() int { var i: int; while i < 3 { i = i + 1; } }",
+            "entries 1\n0 t0 s0 end 0\nraces 0\nfinish whole\nend\n",
+        ),
+    ];
+    for (text, tail) in cases {
+        let answer = call_forder(rt.alloc(), &SERIAL, text, 4096, &[], &[])?;
+        assert!(rt; ends_in(&answer, tail), "{text}");
+    }
+    Ok(())
+}
+
+#[test]
+fn bounded_runs(rt: HostRuntime) -> Result<(), Fail> {
+    let text = "cells a[1]; task main() int { while 1 { a[0] = 1; } return 0; }";
+    let cases: [(&[&str], usize, &str); 3] = [
+        (
+            &["serial", "--events", "100"],
+            100,
+            "99 t0 s0 write 0 1\nraces 0\nfinish events 100\nend\n",
+        ),
+        (
+            &["serial", "--events", "99"],
+            99,
+            "98 t0 s0 write 0 1\nraces 0\nfinish events 99\nend\n",
+        ),
+        (
+            &["run", "--workers", "1", "--events", "100"],
+            100,
+            "99 t0 s0 write 0 1\nraces 0\nfinish events 100\nend\n",
+        ),
+    ];
+    for (words, entries, tail) in cases {
+        let answer = call_forder(rt.alloc(), words, text, 4096, &[], &[])?;
+        assert!(rt; ends_in(&answer, tail));
+        assert_eq!(rt; answer.entries, entries);
+    }
+    Ok(())
+}
+
 #[test]
 fn other_words_read_nothing(rt: HostRuntime) -> Result<(), Fail> {
     let usage = "usage: forder run, serial, replay, check or load\n";
-    let cases: [&[&str]; 5] = [
+    let cases: [&[&str]; 13] = [
         &[],
         &["run"],
         &["run", "--workers", "0"],
         &["run", "--workers=1"],
         &["run", "--workers", "1", "1"],
+        &["run", "--workers", "1", "--events"],
+        &["serial", "--events", "0"],
+        &["serial", "--events", "1000001"],
+        &["serial", "--events", "0100"],
+        &["serial", "--events", "+100"],
+        &["serial", "--events", "99999999999999999999"],
+        &["serial", "--events", "1", "--events"],
+        &["check", "--events", "1"],
     ];
     for words in cases {
         // the source fails at its first call, and the answer shows that there was none
@@ -184,7 +282,8 @@ fn a_run_that_is_spent(rt: HostRuntime) -> Result<(), Fail> {
         record.push_str(line.as_str())?;
     }
     record.push_str("races 0\nfinish events 1000\nend\n")?;
-    let answer = run(alloc, text)?;
+    let words = ["run", "--workers", "1", "--events", "1000"];
+    let answer = call_forder(alloc, &words, text, 4096, &[], &[])?;
     assert_eq!(rt;
         answer.status,
         Status::Spent {
@@ -280,9 +379,13 @@ fn deep_brackets(rt: HostRuntime) -> Result<(), Fail> {
 }
 
 #[test]
-fn plain_makes_no_runs(rt: HostRuntime) -> Result<(), Fail> {
+fn plain_makes_no_runs_on_workers(rt: HostRuntime) -> Result<(), Fail> {
     let alloc = rt.alloc();
-    for (word, status) in [("check", Status::Accepted), ("run", Status::Usage)] {
+    for (word, status) in [
+        ("check", Status::Accepted),
+        ("serial", Status::Clean),
+        ("run", Status::Usage),
+    ] {
         let mut words = Words::make(alloc);
         words.push(word)?;
         if word == "run" {
@@ -292,7 +395,7 @@ fn plain_makes_no_runs(rt: HostRuntime) -> Result<(), Fail> {
         let mut source = MemSource::make(alloc, b"task main() int { return 0; }", 16, &[])?;
         let mut out = MemSink::make(alloc, 1000, 16, &[])?;
         let answer = plain(alloc, &words, &mut source, &mut out);
-        assert_eq!(rt; answer.status, status, "{word}");
+        assert_eq!(rt; answer.status, status);
     }
     Ok(())
 }

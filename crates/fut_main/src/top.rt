@@ -15,8 +15,10 @@ use std::alloc::Global;
 /// Does what the words ask for: reads a program text from the source, and writes to the sink the record of its run with
 /// the races of that run, or its canonical text.
 ///
-/// The words are `run --workers 1` or `check`; for all others the answer is `Usage`, and nothing is read. The history is
-/// that of the run, also where the sink failed while its record was written; where no run was made it is empty.
+/// The words are `check`, or `serial` or `run --workers 1`, which `--events` and a number from 1 to 1,000,000 may follow;
+/// for all others the answer is `Usage`, and nothing is read. A run with one worker is the serial run, in which a child or
+/// future runs to its end before its maker goes on. It ends after 100,000 entries, or as many as the words say. The history
+/// is that of the run, also where the sink failed while its record was written; where no run was made it is empty.
 pub fn forder<R, S: Source, K: Sink, G: Gate>(
     _rt: &R,
     alloc: Global,
@@ -45,7 +47,8 @@ pub fn forder<R, S: Source, K: Sink, G: Gate>(
     answer(alloc, words, true, source, out)
 }
 
-/// What `forder` does for the words `check`. For all others, a run among them, the answer is `Usage`, and nothing is read.
+/// What `forder` does for the words of `check` and `serial`. For all others, a run on workers among them, the answer is
+/// `Usage`, and nothing is read.
 pub fn plain<S: Source, K: Sink>(alloc: Global, words: &Words, source: &mut S, out: &mut K) -> Ended
     // The status, the history and what was written are those of a verdict whose causes hold.
     ensures answer { IsAnswer

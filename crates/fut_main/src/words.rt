@@ -1,10 +1,14 @@
 //! The words of the command line.
-ghost use Rattle.std.specs.Prelude.{◌≡◌, ◌↔◌, [], ◌∷◌, ◌++◌, IsTrue, OnOk, OnErr, codes, string_bytes};
-ghost use Rattle.fut_main.specs.Asking.{Commands};
+ghost use Rattle.std.specs.Prelude.{◌≡◌, ◌↔◌, ℕ, List, [], ◌∷◌, ◌++◌, map, IsTrue, OnOk, OnErr, MatchOption, codes, decimal, string_bytes};
+ghost use Rattle.fut_main.specs.Asking.{Commands, IsHead, IsBound, AreBounds};
 
 use fut_base::list::NoMemory;
+use itoa::Buffer;
 use std::alloc::Global;
 use std::marker::Model;
+
+/// The greatest number of entries of a run whose words name none.
+const MOST_EVENTS: u32 = 100_000;
 
 /// The words after the program's name. Contracts see the list of their bytes.
 #[derive(Drop)]
@@ -42,21 +46,8 @@ impl Words {
         Ok(())
     }
 
-    /// Whether the words are `run --workers 1`.
-    pub fn is_run(&self) -> bool
-        ensures { IsTrue result ↔ (self.now ≡ codes "run" ∷ codes "--workers" ∷ codes "1" ∷ []) }
-    {
-        let [command, option, number] = self.all.as_slice() else {
-            return false;
-        };
-        let is_command = is_text(command, "run");
-        let is_option = is_text(option, "--workers");
-        let is_number = is_text(number, "1");
-        is_command && is_option && is_number
-    }
-
     /// Whether the words are `check`.
-    pub fn is_check(&self) -> bool
+    fn is_check(&self) -> bool
         ensures { IsTrue result ↔ (self.now ≡ codes "check" ∷ []) }
     {
         let [command] = self.all.as_slice() else {
@@ -65,25 +56,82 @@ impl Words {
         is_text(command, "check")
     }
 
-    /// What the words ask for, if they have a form that is known: `check`, and `run --workers 1` where runs are made.
+    /// The words behind those of a run.
+    fn behind_run(&self, may_run: bool) -> Option<&[String]>
+        ensures { MatchOption result
+            ((head rest : List (List ℕ)) → IsHead may_run head → self.now ≡ head ++ rest → ⊥)
+            (λ rest. (head : List (List ℕ)) × IsHead may_run head × (self.now ≡ head ++ map string_bytes rest.now)) }
+    {
+        match self.all.as_slice() {
+            [command, rest @ ..] if is_text(command, "serial") => Some(rest),
+            [command, option, number, rest @ ..] if may_run && is_run(command, option, number) =>
+                Some(rest),
+            _ => None,
+        }
+    }
+
+    /// What the words ask for, if they have a form that is known: `check`, or a run, `serial` or `run --workers 1`, which
+    /// `--events` and a number from 1 to 1,000,000 may follow. Runs on workers are asked for where they are made.
     pub fn command(&self, may_run: bool) -> Option<Command>
         ensures { Commands may_run self.now result }
     {
         if self.is_check() {
             return Some(Command::Check);
         }
-        if may_run && self.is_run() {
-            return Some(Command::Run);
-        }
-        None
+        let rest = self.behind_run(may_run)?;
+        let events = bound_of(rest)?;
+        Some(Command::Run { events })
     }
 }
 
 /// What words ask for.
 #[derive(Clone, Copy, PartialEq, Eq)]
 pub enum Command {
-    Run,
+    /// A run of at most so many entries.
+    Run { events: u32 },
     Check,
+}
+
+/// The greatest number of entries that the words behind those of a run ask for.
+fn bound_of(rest: &[String]) -> Option<u32>
+    ensures { MatchOption result
+        ((events : ℕ) → AreBounds (map string_bytes rest.now) events → ⊥)
+        (λ events. AreBounds (map string_bytes rest.now) events) }
+{
+    match rest {
+        [] => Some(MOST_EVENTS),
+        [option, number] if is_text(option, "--events") => bound(number),
+        _ => None,
+    }
+}
+
+/// A bound, in decimal digits without leading zeros.
+fn bound(word: &String) -> Option<u32>
+    ensures { MatchOption result
+        ((events : ℕ) → IsBound events → string_bytes word.now ≡ decimal events → ⊥)
+        (λ events. IsBound events × (string_bytes word.now ≡ decimal events)) }
+{
+    let Ok(events) = word.as_str().parse::<u32>() else {
+        return None;
+    };
+    if events == 0 || events > 1_000_000 {
+        return None;
+    }
+    let mut digits = Buffer::new();
+    if digits.format(events) == word.as_str() {
+        Some(events)
+    } else {
+        None
+    }
+}
+
+fn is_run(command: &String, option: &String, number: &String) -> bool
+    ensures { IsTrue result ↔ ((string_bytes command.now ≡ codes "run") × (string_bytes option.now ≡ codes "--workers") × (string_bytes number.now ≡ codes "1")) }
+{
+    let is_command = is_text(command, "run");
+    let is_option = is_text(option, "--workers");
+    let is_number = is_text(number, "1");
+    is_command && is_option && is_number
 }
 
 fn is_text(word: &String, text: &str) -> bool

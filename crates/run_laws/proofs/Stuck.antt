@@ -83,7 +83,7 @@ cell_below : (P : tree.Program) → HasCells P → (word : List ℕ) (z : ℤ) (
 cell_below P f word z cell h = let k : cell < 0 + count_cells (items_of P) = found_below 0 (items_of P) word z cell f h in omega arith
 
 -- a wish reads a cell that there is
-abbrev ReadsBelow : ℕ → Wish → Type 0
+abbrev pub ReadsBelow : ℕ → Wish → Type 0
 ReadsBelow n (ToRead cell) = cell < n
 ReadsBelow n _ = Unit {0}
 
@@ -133,7 +133,7 @@ module _ (P : tree.Program) (f : HasCells P) where
   todo_below s [] = end_below s.is_open (Int (pos 0))
   todo_below s (stmt ∷ rest) = stmt_below s stmt
 
-  wish_below : (s : TaskState) → ReadsBelow (cell_count P) (wish_of P s)
+  pub wish_below : (s : TaskState) → ReadsBelow (cell_count P) (wish_of P s)
   wish_below s = todo_below s s.todo
 
 cells_stay : (a : Action) (cells : List ℤ) → length (cells_after a cells) ≡ length cells
@@ -145,12 +145,12 @@ cells_stay (Syncs _) cells = refl
 cells_stay (Gets _ _ _) cells = refl
 cells_stay (Ends _) cells = refl
 
-cells_from : (P : tree.Program) (m : Machine) (h : List Event) (n : Machine) → Leads P m h n → length n.cells ≡ length m.cells
+pub cells_from : (P : tree.Program) (m : Machine) (h : List Event) (n : Machine) → Leads P m h n → length n.cells ≡ length m.cells
 cells_from P m [] n l = ap (λ (z : Machine). length z.cells) (sym l)
 cells_from P m (e ∷ h) n (next, step, rest) =
     cells_from P next h n rest ∙ ap (λ (z : Machine). length z.cells) step.gives ∙ cells_stay e.action m.cells
 
-replicate_length : (n : ℕ) (z : ℤ) → length (replicate n z) ≡ n
+pub replicate_length : (n : ℕ) (z : ℤ) → length (replicate n z) ≡ n
 replicate_length zero z = refl
 replicate_length (suc n) z = ap suc (replicate_length n z)
 

@@ -1,5 +1,5 @@
 -- A task stands at one event, and a step leads to one machine.
-use Rattle.std.proofs.Common.{◌≡◌, ℕ, zero, suc, ◌<◌, sym, ◌∙◌, subst, arith}
+use Rattle.std.proofs.Common.{◌≡◌, ℕ, zero, suc, ◌<◌, refl, sym, ◌∙◌, subst, arith, lit<}
 use Rattle.std.specs.Prelude.{Some, None}
 use Rattle.fut_base.specs.declared.event.Event.{Event}
 use Rattle.fut_syntax.specs.Trees as tree
@@ -42,3 +42,7 @@ step_is_one P m e a b x y =
     let same : x.task ≡ y.task = some_same x.task y.task (sym x.present ∙ y.present) in
     let stop : x.stop ≡ y.stop = stands_at_one x.task.state x.stop y.stop x.stands (subst (λ (r : Running). StandsAt r.state y.stop) (sym same) y.stands) in
     x.gives ∙ after_same P m e x.task y.task x.stop y.stop same stop ∙ sym y.gives
+
+-- a task whose first statement is no local one stands at its event
+pub stands_here : (s : TaskState) → local_step s ≡ None → StandsAt s s
+stands_here s stop = (1000000, refl, (0, lit< tt, refl, stop))

@@ -1,4 +1,3 @@
-pub mod Flat
 pub mod Laws
 pub mod Machine
 pub mod Rows

@@ -5,9 +5,6 @@ use Rattle.fut_base.specs.declared.event.Event.{Event}
 use Rattle.fut_base.specs.declared.event.Action.TheVariants.{Writes, Spawns, Syncs, Ends}
 use Rattle.fut_base.specs.Rows.{ev}
 use Rattle.fut_syntax.specs.Trees as tree
-use Rattle.fut_syntax.specs.Small.{IsSmall}
-use Rattle.task_machine.specs.declared.instruction.Instruction.TheVariants.{Write, Spawn, Sync, Return}
-use Rattle.task_machine.specs.Flat.{Compiled, IsCodeOf}
 use Rattle.task_machine.specs.Values.{combine, index_of}
 use Rattle.task_machine.specs.Machine.{IsLegal, IsWhole}
 
@@ -35,23 +32,6 @@ spawn_history =
 pub record SpawnRow : Type 0 where
   pub legal : IsLegal spawn_program spawn_history
   pub whole : IsWhole spawn_program spawn_history
-
--- the program is small, and this is its code
-abbrev pub spawn_code : Compiled
-spawn_code =
-    record {
-      arrays = record { name = codes "a"; first = 0; length = 1 } ∷ [];
-      tasks =
-          (Write 0 (pos 1) ∷ Return (pos 0) ∷ [])
-          ∷ (Spawn 0 ∷ Write 0 (pos 2) ∷ Sync ∷ Return (pos 0) ∷ [])
-          ∷ [];
-      main = 1;
-      cells = 1;
-    }
-
-pub record CodeRow : Type 0 where
-  pub small : IsSmall spawn_program
-  pub code : IsCodeOf spawn_program spawn_code
 
 -- numbers wrap, and a divisor of 0 gives 0; an index is never negative
 pub record NumberRow : Type 0 where

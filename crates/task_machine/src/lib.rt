@@ -1,12 +1,9 @@
-//! Tasks as machines: what a program means, which histories of it are legal, and its flat code.
-//! The layer above uses the definitions `IsStep`, `Leads`, `IsLegal`, `IsWhole` and `FinishHolds`, and `Code` and `Task`.
+//! What a program means: values, states of tasks, steps, and which histories are legal and whole.
+//! The layer above uses the definitions `IsStep`, `Leads`, `IsLegal`, `IsWhole` and `FinishHolds`, and the entries that one task
+//! has made, `Trace`.
 #![tactic(auto)]
 
-pub mod code;
-pub mod instruction;
 pub mod laws;
-pub mod small;
-pub mod task;
 #[cfg(test)]
 mod tests;
 pub mod trace;

@@ -64,7 +64,8 @@ impl Trace {
 
     /// Takes the first entry; `None` exactly where there is none.
     pub fn pop(&mut self) -> Option<(u32, Entry)>
-        ensures { MatchOption result ((self.old.items ≡ []) × (self.new.items ≡ [])) (λ first. self.old.items ≡ first ∷ self.new.items) }
+        ensures first { MatchOption result ((self.old.items ≡ []) × (self.new.items ≡ [])) (λ first. self.old.items ≡ first ∷ self.new.items) }
+        ensures spare { self.new.spare ≡ self.old.spare }
     {
         self.kept.pop_front()
     }

@@ -10,4 +10,4 @@ returns-in-Ok c =
     outcome c.args.command c.args.text.now c.in-Ok.program o.status (events_of o.history) o.races.items o.printed.items c.in-Ok.ensures c.outcome_of_program.ensures
 
 pub outcome_of_program-requires : goal.outcome_of_program-requires
-outcome_of_program-requires c = read_can_be_checked c.args.text.now c.in-Ok.program (omega (arith, c.requires)) c.in-Ok.ensures
+outcome_of_program-requires c = record { places = read_can_be_checked c.args.text.now c.in-Ok.program (omega (arith, c.requires.short)) c.in-Ok.ensures; bounded = c.requires.bounded }

@@ -12,7 +12,7 @@ use Rattle.task_machine.specs.State.{TaskState, NoWish, ToEnd, local_step, wish_
 use Rattle.task_machine.specs.Runs.{StandsAt}
 use Rattle.task_machine.specs.Machine.{Machine, Running, begins, opening, after, IsAllowed, IsRunning, IsStep, Leads, Permits}
 use Rattle.task_machine.proofs.Stepping.{stands_at_one, stands_or_goes_on}
-use Rattle.task_machine.proofs.Tasking.{stands_here}
+use Rattle.task_machine.proofs.Stepping.{stands_here}
 use Rattle.run_laws.specs.Laws.{HasCells, IsFirst, Knows}
 use Rattle.run_laws.specs.Rows.{future_program, future_history, made, MadeRow}
 use Rattle.run_laws.proofs.Mirrored.{mirrors}

@@ -1,0 +1,11 @@
+pub mod Outcome
+pub mod Readying
+pub mod Lining
+pub mod Acting
+pub mod Starting
+pub mod Asking
+pub mod Waiting
+pub mod Answering
+pub mod Serially
+pub mod Sameness
+pub mod Only

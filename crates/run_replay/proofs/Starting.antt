@@ -1,0 +1,140 @@
+-- The opening state, the first task, and a run that stands still.
+use Rattle.std.proofs.Common.{◌≡◌, ℕ, zero, suc, ◌+◌, List, [], ◌∷◌, ◌++◌, length, replicate, refl, sym, ap, ◌∙◌, subst, arith}
+use Rattle.std.specs.Prelude.{Some, slice_get, slice_set, reverse, ℤ, pos}
+use Rattle.std.proofs.lemmas.List.{reverse-append}
+use Rattle.fut_base.specs.declared.event.Event.{Event}
+use Rattle.fut_base.specs.declared.event.Action.{Action}
+use Rattle.fut_base.specs.Dag.{block_after}
+use Rattle.fut_base.specs.Sound.{strands_by, value_by}
+use Rattle.fut_syntax.specs.Trees as tree
+use Rattle.fut_check.specs.Items.{IsWellTyped}
+use Rattle.task_machine.specs.Texts.{main_of}
+use Rattle.task_machine.specs.Machine.{opening, begins, strand_after, cells_after, creates}
+use Rattle.task_types.proofs.Mains.{main_fits}
+use Rattle.task_types.specs.Typed.{any_future}
+use Rattle.task_code.specs.Flat.{Compiled, IsCodeOf}
+use Rattle.task_code.specs.Tasks.{IsStill}
+use Rattle.run_laws.specs.Ready.{ready_by}
+use Rattle.run_replay.specs.declared.line.Line.{Line}
+use Rattle.run_replay.specs.Replays.{ReplayNow, IsLineOf, AreLinesOf, IsReplayOf, KeepsLine, KeepsLineAt, StandsStill, ActsAs, ActsAt, AreBegun, Begins, StillAt, Takes, creates_by}
+use Rattle.run_replay.proofs.Lining.{kept_lines, kept_length, set_twice, get_set_here, some_same}
+use Rattle.task_machine.proofs.Places.{get_below}
+
+pub begins_run : (P : tree.Program) (code : Compiled) (main : Line) (now : ReplayNow) → IsWellTyped P → IsCodeOf P code → Begins code code.main [] 0 0 main
+    → now.lines ≡ main ∷ [] → now.cells ≡ replicate code.cells (pos 0) → now.ready ≡ 0 ∷ [] → now.entries ≡ 0 → now.creates ≡ 0 → now.strands ≡ 1
+    → IsReplayOf P code [] now (opening P)
+begins_run P code main now typed of b lines cells ready entries creates strands =
+    let size = ap length lines in
+    let first : IsLineOf P code main (begins P (main_of P) [] 0 0) =
+    subst (λ n. IsLineOf P code main (begins P n [] 0 0)) of.main
+    (record {
+      args = [];
+      task = b.state P typed of (subst (λ n. Rattle.task_types.specs.Typed.ArgsFit any_future P n []) (sym of.main) (main_fits any_future P typed));
+      which = b.which_is;
+      ended = b.runs;
+      strand = b.strand_is;
+      future = b.future_is;
+      block = b.block;
+      value = b.value;
+    }) in
+    record {
+      typed = typed;
+      code_is = of;
+      leads = refl;
+      lines = subst (λ z. AreLinesOf P code z (begins P (main_of P) [] 0 0 ∷ [])) (sym lines) (first, tt);
+      cells = cells ∙ ap (λ n. replicate n (pos 0)) of.cells;
+      strands = strands;
+      entries = entries;
+      creates = creates;
+      ready = ap reverse ready;
+      few = omega (arith, size, entries);
+      made = omega (arith, strands, entries);
+    }
+
+-- ---- the first task
+
+pub last_first : (xs : List ℕ) (i t : ℕ) → i + 1 ≡ length xs → slice_get xs i ≡ Some t → (ts : List ℕ) × (reverse xs ≡ t ∷ ts)
+last_first [] i t e h = cc
+last_first (x ∷ []) zero t e h = ([], (let same : x ≡ t = some_same x t h in ap (λ z. z ∷ []) same))
+last_first (x ∷ []) (suc i) t e h = absurd (omega (arith, e))
+last_first (x ∷ y ∷ ys) zero t e h = absurd (omega (arith, e))
+last_first (x ∷ y ∷ ys) (suc i) t e h =
+    let r = last_first (y ∷ ys) i t (omega (arith, e)) h in
+    (r.0 ++ x ∷ [], reverse-append (x ∷ []) (y ∷ ys) ∙ ap (λ l. l ++ x ∷ []) r.1)
+
+-- ---- a run that stands still
+
+pub still_by : (code : Compiled) (old new : ReplayNow) (t : ℕ) → KeepsLineAt code old.lines new.lines t → new.cells ≡ old.cells → new.ready ≡ old.ready → new.entries ≡ old.entries → new.creates ≡ old.creates → new.strands ≡ old.strands → StandsStill code old new
+still_by code old new t k cells ready entries creates strands P h m x =
+    let size = kept_length code old.lines new.lines t k in
+    let few = x.few in
+    let made = x.made in
+    record {
+      typed = x.typed;
+      code_is = x.code_is;
+      leads = x.leads;
+      lines = kept_lines P code old.lines new.lines m.tasks t x.typed x.code_is k x.lines;
+      cells = cells ∙ x.cells;
+      strands = strands ∙ x.strands;
+      entries = entries ∙ x.entries;
+      creates = creates ∙ x.creates;
+      ready = ap reverse ready ∙ x.ready;
+      few = omega (arith, size, few, entries);
+      made = omega (arith, made, strands, entries);
+    }
+
+-- ---- a run that takes an action
+
+acts_on : (code : Compiled) (x y z : Line) (a : Action) → KeepsLine code x y → IsStill code y.task → ActsAs code y z a → ActsAs code x z a
+acts_on code x y z a k still w =
+    record {
+      fed = λ runs old. (
+          let f = w.fed (k.task.ended ∙ runs) still in
+          record {
+            which = f.which ∙ k.task.which;
+            ended = f.ended;
+            state = λ P typed of args s t h stands answers fits.
+                f.state P typed of args s t (k.task.state P typed of args s h) stands answers
+                (subst (λ n. Rattle.task_types.specs.Typed.ActionFits any_future P n t a) (sym k.task.which) fits);
+          });
+      strand = w.strand ∙ ap (strand_after a) k.strand;
+      future = w.future ∙ k.future;
+      block = w.block ∙ ap (block_after a) k.block;
+      value = w.value ∙ ap (value_by a) k.value;
+    }
+
+at : ℕ → ℕ → Action → Event
+at t s a = record { task = t; strand = s; action = a }
+
+pub takes_by : (code : Compiled) (old new : ReplayNow) (mid : List Line) (t : ℕ) (a : Action) (e : Event) (begun : List Line) (x : Line)
+    → slice_get old.lines t ≡ Some x → KeepsLineAt code old.lines mid t → StillAt code mid t → ActsAt code mid new.lines t a begun → AreBegun code x.future a begun → e ≡ record { task = t; strand = x.strand; action = a }
+    → new.cells ≡ cells_after a old.cells → new.strands ≡ old.strands + strands_by a → new.entries ≡ old.entries + 1 → new.creates ≡ old.creates + creates_by (creates a) → reverse new.ready ≡ ready_by t a (reverse old.ready)
+    → Takes code old new t a e
+takes_by code old new mid t a e begun x present k st w are event cells strands entries creates ready =
+    let same : k.before ≡ x = some_same k.before x (sym k.present ∙ present) in
+    let here = get_set_here old.lines t k.after (get_below old.lines t x present) in
+    let middle : k.after ≡ w.before = some_same k.after w.before (sym here ∙ (ap (λ l. slice_get l t) (sym k.is) ∙ w.present)) in
+    let keeps : KeepsLine code x w.before = subst (λ (z : Line). KeepsLine code z w.before) same (subst (λ (z : Line). KeepsLine code k.before z) middle k.keeps) in
+    record {
+      before = x;
+      after = w.after;
+      begun = begun;
+      present = present;
+      event = event;
+      lines = w.is ∙ ap (λ l. l ++ begun) (ap (λ l. slice_set l t w.after) k.is ∙ set_twice old.lines t k.after w.after);
+      acts = acts_on code x w.before w.after a keeps (subst (λ (z : Line). IsStill code z.task) (some_same st.0 w.before (sym st.1 ∙ w.present)) st.3) w.acts;
+      are_begun = are;
+      cells = cells;
+      strands = strands;
+      entries = entries;
+      creates_are = creates;
+      ready = ready;
+    }
+
+pub none_left : (xs : List ℕ) → length xs ≡ 0 → reverse xs ≡ []
+none_left [] h = refl
+none_left (x ∷ xs) h = absurd (omega (arith, h))
+
+-- a run of these parts
+abbrev pub now_of : List Line → List ℤ → List ℕ → ℕ → ℕ → ℕ → ReplayNow
+now_of lines cells ready entries creates strands = record { lines = lines; cells = cells; ready = ready; entries = entries; creates = creates; strands = strands }

@@ -1,0 +1,38 @@
+use Rattle.std.proofs.Common.{◌+◌, ◌<◌, ◌∙◌, ap, refl, sym, subst, length}
+use Rattle.std.specs.Prelude.{option_to_list}
+use Rattle.std.proofs.lemmas.Option.{slice_get_read}
+use Rattle.fut_base.specs.Events.{action_of, event_of}
+use Rattle.run_replay.specs.contracts.replay.Replay.{the_view}
+use Rattle.run_replay.specs.declared.line.Line.{Line}
+use Rattle.run_replay.specs.Replays.{ReplayNow, StandsStill, StillAt, Takes, AreBegun}
+use Rattle.run_replay.proofs.Outcome.{on_err}
+use Rattle.run_replay.proofs.Lining.{some_same}
+use Rattle.run_replay.proofs.Starting.{still_by, takes_by, now_of}
+use Rattle.run_replay.proofs.replay.Replay.take.Goals as goal
+
+pub returns-in_err-give_room-clause-unchanged : goal.returns-in_err-give_room-clause-unchanged
+returns-in_err-give_room-clause-unchanged c =
+    let new : ReplayNow = (now_of c.give_room.new.lines.items c.self.inside.cells.items c.self.inside.ready.items c.self.inside.entries c.self.inside.creates c.self.inside.strands) in
+    on_err _ _ (subst (λ v. StandsStill c.args.code.now v new) c.self.view_is (still_by c.args.code.now (the_view c.self.inside) new c.args.task c.in_err-give_room.ensures.same refl refl refl refl refl))
+
+pub returns-in_err-reorder-clause-unchanged : goal.returns-in_err-reorder-clause-unchanged
+returns-in_err-reorder-clause-unchanged c =
+    let new : ReplayNow = (now_of c.give_room.new.lines.items c.self.inside.cells.items c.reorder.new.ready.items c.self.inside.entries c.self.inside.creates c.self.inside.strands) in
+    on_err _ _ (subst (λ v. StandsStill c.args.code.now v new) c.self.view_is (still_by c.args.code.now (the_view c.self.inside) new c.args.task c.in_ok-give_room.ensures.same refl c.in_err-reorder.ensures.unchanged refl refl refl))
+
+pub returns-clause-taken : goal.returns-clause-taken
+returns-clause-taken c =
+    let code = c.args.code.now in
+    let t = c.args.task in
+    let a = action_of c.args.act in
+    let lines = c.self.inside.lines.items in
+    let x = c.index.result.now in
+    let exists = subst (λ (v : ReplayNow). t < length v.lines) (sym c.self.view_is) c.requires.exists in
+    let present = slice_get_read lines (length lines) t x refl exists c.index.ensures in
+    let again = slice_get_read lines (length lines) t c.index-2.result.now refl exists c.index-2.ensures in
+    let same = some_same c.index-2.result.now x (sym again ∙ present) in
+    let are = subst (λ (l : Line). AreBegun code l.future a (option_to_list c.in_ok-child.child)) same c.in_ok-child.ensures in
+    let new : ReplayNow = (now_of c.commit.new.lines.items c.write.new.cells.items c.reorder.new.ready.items (c.self.inside.entries + 1) (c.self.inside.creates + c.creates_of.result) (c.self.inside.strands + c.strands_of.result)) in
+    subst (λ v. Takes code v new t a (event_of c.in_ok-own.own)) c.self.view_is
+    (takes_by code (the_view c.self.inside) new c.give_room.new.lines.items t a (event_of c.in_ok-own.own) (option_to_list c.in_ok-child.child) x present c.in_ok-give_room.ensures.same (c.in_ok-give_room.ensures.still (subst (λ (v : ReplayNow). StillAt code v.lines t) (sym c.self.view_is) c.requires.still)) c.commit.ensures are c.in_ok-own.ensures
+    c.write.ensures (ap (λ n. c.self.inside.strands + n) c.strands_of.ensures) refl (ap (λ n. c.self.inside.creates + n) c.creates_of.ensures) c.in_ok-reorder.ensures.ordered)

@@ -1,0 +1,5 @@
+pub mod Next
+pub mod Ready
+pub mod Replays
+pub mod Serials
+pub mod Steps

@@ -1,0 +1,82 @@
+//! The serial run: a child runs to its end before its maker goes on.
+ghost use Rattle.std.specs.Prelude.{◌≡◌, ◌≤◌, IfOk, length};
+ghost use Rattle.fut_base.specs.Events.{events_of};
+ghost use Rattle.fut_base.specs.Racing.{IsReport};
+ghost use Rattle.fut_syntax.specs.Trees as tree;
+ghost use Rattle.fut_check.specs.Items.{IsWellTyped};
+ghost use Rattle.task_code.specs.Flat.{IsCodeOf};
+ghost use Rattle.run_replay.specs.Serials.{AlwaysRuns, HasTurned, IsSerialRun};
+
+use crate::replay::{Next, Replay};
+use fut_base::list::NoMemory;
+use fut_base::record::{Finish, History, Limits, Ran};
+use race_report::found_of;
+use std::alloc::Global;
+use task_code::code::Code;
+
+/// Makes the next event of the first task, or tells why there is none.
+fn turn(
+    run: &mut Replay,
+    code: &Code,
+    limits: Limits,
+    history: &mut History,
+) -> Result<Option<Finish>, NoMemory>
+    requires program { (P : tree.Program) × IsWellTyped P × IsCodeOf P code.now }
+    requires local { limits.local_steps ≡ 1000000 }
+    requires events { limits.events ≤ 1000000 }
+    requires runs { AlwaysRuns code.now limits (events_of history.old) run.old }
+    ensures { IfOk result (λ finish. HasTurned code.now limits (events_of history.old) (events_of history.new) run.new finish) }
+{
+    history.reserve()?;
+    match run.next_ready() {
+        None => Ok(Some(Finish::Whole)),
+        Some(task) => match run.event(code, limits, task) {
+            Next::Made { entry } => {
+                history.push(entry);
+                Ok(None)
+            }
+            Next::Spent { finish } => Ok(Some(finish)),
+            Next::NoMemory => Err(NoMemory),
+            Next::Waits { .. } => unreachable!(),
+            Next::Idle => unreachable!(),
+        },
+    }
+}
+
+/// The run with its races.
+fn finished(alloc: Global, run: &Replay, history: History, finish: Finish) -> Result<Ran, NoMemory>
+    requires { length history.items ≤ 1000000 }
+    ensures run { IfOk result (λ ran. (events_of ran.history ≡ events_of history) × (ran.finish ≡ finish) × (ran.cells.items ≡ run.now.cells)) }
+    ensures races { IfOk result (λ ran. IsReport (events_of ran.history) ran.races.items) }
+{
+    let races = found_of(alloc, &history)?;
+    let cells = run.cells(alloc)?;
+    Ok(Ran {
+        history,
+        races,
+        finish,
+        cells,
+    })
+}
+
+/// The run of a program in which the first task, in English order, of those that have not ended makes the next event.
+///
+/// It stops where all tasks have ended, or else by the first of these that holds of the first task: it is out of steps;
+/// it wishes to create, and the history has `limits.futures` creates; the history has `limits.events` entries.
+pub fn serial(alloc: Global, code: &Code, limits: Limits) -> Result<Ran, NoMemory>
+    requires program { (P : tree.Program) × IsWellTyped P × IsCodeOf P code.now }
+    requires local { limits.local_steps ≡ 1000000 }
+    requires events { limits.events ≤ 1000000 }
+    requires futures { limits.futures ≡ 4096 }
+    ensures run { IfOk result (λ ran. (P : tree.Program) → IsWellTyped P → IsCodeOf P code.now → IsSerialRun P limits (events_of ran.history) ran.finish ran.cells.items) }
+    ensures races { IfOk result (λ ran. IsReport (events_of ran.history) ran.races.items) }
+{
+    let mut run = Replay::start(alloc, code)?;
+    let mut history = History::make(alloc);
+    for _made in 0..limits.events + 1 {
+        if let Some(finish) = turn(&mut run, code, limits, &mut history)? {
+            return finished(alloc, &run, history, finish);
+        }
+    }
+    unreachable!()
+}

@@ -1,6 +1,0 @@
-use Rattle.std.proofs.Common.{drop}
-use Rattle.task_machine.specs.Flat.{HasCell}
-use Rattle.task_machine.proofs.code.Code.array.Given as goal
-
-abbrev pub invariant-loop-place : goal.invariant-loop-place
-invariant-loop-place l = HasCell l.cell l.array-items → HasCell l.cell (drop l.place l.array-items)
