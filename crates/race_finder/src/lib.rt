@@ -1,6 +1,9 @@
 //! Finds the races of a history while its entries come, on one thread.
 #![tactic(auto)]
 
+mod cells;
+mod doer;
+mod finder;
 mod places;
 
-pub use places::Places;
+pub use finder::Finder;

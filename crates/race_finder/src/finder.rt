@@ -1,0 +1,85 @@
+//! The finder.
+ghost use Rattle.std.specs.Prelude.{◌≡◌, ◌^◌, ◌<◌, ◌≤◌, [], ◌∷◌, List, length, IfOk, OnOk, OnErr};
+ghost use Rattle.fut_base.specs.declared.event.Event.{Event};
+ghost use Rattle.fut_base.specs.Racing.{IsReport};
+ghost use Rattle.access_shards.specs.Kept.{IsKept};
+ghost use Rattle.race_finder.specs.Finding.{IsFinderOf, MayTake, Takes, Stays, IsAccessBy, IsEndBy};
+
+use crate::cells::{grow, keep, report};
+use crate::doer::Doer;
+use crate::places::Places;
+use access_shards::CellLog;
+use fut_base::list::{Listing, NoMemory};
+use fut_base::record::Races;
+use reach_table::Reach;
+use std::alloc::Global;
+use strand_tree::root;
+
+/// Finds the races of a history whose entries come one after another.
+#[derive(Drop)]
+pub struct Finder {
+    alloc: Global,
+    places: Places,
+    doers: Vec<Doer>,
+    logs: Vec<CellLog>,
+    count: u32,
+}
+
+impl Finder {
+    /// A finder of the empty history.
+    pub fn start(alloc: Global) -> Result<Finder, NoMemory>
+        ensures { IfOk result (λ f. IsFinderOf [] f) }
+    {
+        let places = Places::make(alloc)?;
+        let mut doers = Vec::new(alloc);
+        doers.push(Doer {
+            at: root(),
+            reach: Reach::empty(alloc),
+            block: Listing::make(alloc),
+            ended: false,
+        })?;
+        Ok(Finder {
+            alloc,
+            places,
+            doers,
+            logs: Vec::new(alloc),
+            count: 0,
+        })
+    }
+
+    /// The races of the entries so far: the racing cells in order, each with its first pair.
+    pub fn races(&self, alloc: Global) -> Result<Races, NoMemory>
+        requires { (h : List Event) × IsFinderOf h self.now }
+        ensures { IfOk result (λ races. (h : List Event) → IsFinderOf h self.now → IsReport h races.items) }
+    {
+        report(alloc, self.logs.as_slice())
+    }
+
+    // A task reads or writes a cell.
+    pub fn access(&mut self, task: u32, cell: u32, writes: bool) -> Result<(), NoMemory>
+        requires { MayTake (IsAccessBy task cell writes) self.old }
+        ensures takes { OnOk result (Takes (IsAccessBy task cell writes) self.old self.new) }
+        ensures stays { OnErr result (Stays self.old self.new) }
+    {
+        grow(self.alloc, &mut self.logs, cell)?;
+        self.logs[cell as usize].reserve()?;
+        keep(
+            &mut self.logs[cell as usize],
+            &mut self.places,
+            &self.doers[task as usize],
+            self.count,
+            writes,
+        );
+        self.count += 1;
+        Ok(())
+    }
+
+    // A task ends.
+    pub fn end(&mut self, task: u32)
+        requires { MayTake (IsEndBy task) self.old }
+        ensures { Takes (IsEndBy task) self.old self.new }
+    {
+        self.doers[task as usize].ended = true;
+        self.count += 1;
+    }
+}
