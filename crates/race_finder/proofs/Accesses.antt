@@ -104,8 +104,8 @@ logs_next h e c kind logs new is lt a k =
       each = λ d l at. elim (set_get logs c d new l at) [
         | inl n ↦ subst (λ (x : Logged). IsKept (structure_of (h ++ e ∷ [])) (touches_of d (h ++ e ∷ [])) x.kept) n.1 (subst (λ q. IsKept (structure_of (h ++ e ∷ [])) (touches_of q (h ++ e ∷ [])) new.kept) (sym n.0) k)
         | inr o ↦
-          subst (λ s. IsKept s (touches_of d (h ++ e ∷ [])) l.kept) (sym (structure_same h e (kind_plain e.action c kind is)))
-          (subst (λ p. IsKept (structure_of h) p l.kept) (sym (untouched h e d (kind_else e.action c d kind is o.0))) (a.each d l o.1))
+            subst (λ s. IsKept s (touches_of d (h ++ e ∷ [])) l.kept) (sym (structure_same h e (kind_plain e.action c kind is)))
+            (subst (λ p. IsKept (structure_of h) p l.kept) (sym (untouched h e d (kind_else e.action c d kind is o.0))) (a.each d l o.1))
       ];
       rest = λ d le. (
           let n = length-set logs c new in

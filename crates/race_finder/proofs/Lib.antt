@@ -4,3 +4,7 @@ pub mod Next
 pub mod Accesses
 pub mod Reporting
 pub mod Structural
+pub mod Forking
+pub mod Joining
+pub mod Blocks
+pub mod Taking

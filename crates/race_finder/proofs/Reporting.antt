@@ -86,7 +86,7 @@ pub report_done : (h : List Event) (logs : List Logged) (i : ℕ) (races : List 
 report_done h logs i races le up logs_of =
     record {
       each = All-weaker (IsOfLog logs) (λ r. IsFirstPair h r.cell r.first r.second)
-        (λ r f. subst (TellsRaces h r.cell) f.2 (kept_tells_races h r.cell f.0.kept (logs_of.each r.cell f.0 f.1))) races up.each;
+          (λ r f. subst (TellsRaces h r.cell) f.2 (kept_tells_races h r.cell f.0.kept (logs_of.each r.cell f.0 f.1))) races up.each;
       whole = λ c a b r. elim (cases_lt c (length logs)) [
         | inl lt ↦ (
             let none : Logged = record { kept = Found 0 0; room = 0 } in

@@ -121,9 +121,9 @@ module _ (h : List Event) (e : Event) (steps : IsInStep (h ++ e ∷ [])) (plain 
   logs_more logs before a =
       record {
         each = λ c l at.
-          subst (λ s. IsKept s (touches_of c (h ++ e ∷ [])) l.kept) (sym (structure_more h e plain))
-          (subst (λ p. IsKept (structure_of h ++ e ∷ []) p l.kept) (sym (untouched h e c (kind_none e.action c plain)))
-          (kept_stays (structure_of h) (e ∷ []) (touches_of c h) l.kept sound_more (accesses_are_late h c before).2 (a.each c l at)));
+            subst (λ s. IsKept s (touches_of c (h ++ e ∷ [])) l.kept) (sym (structure_more h e plain))
+            (subst (λ p. IsKept (structure_of h ++ e ∷ []) p l.kept) (sym (untouched h e c (kind_none e.action c plain)))
+            (kept_stays (structure_of h) (e ∷ []) (touches_of c h) l.kept sound_more (accesses_are_late h c before).2 (a.each c l at)));
         rest = λ c le. untouched h e c (kind_none e.action c plain) ∙ a.rest c le;
       }
 

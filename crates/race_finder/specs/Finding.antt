@@ -75,3 +75,23 @@ pub record IsAccessBy (task cell : ℕ) (writes : Bool) (e : Event) : Type 0 whe
 pub record IsEndBy (task : ℕ) (e : Event) : Type 0 where
   pub task_is : e.task ≡ task
   pub acts : (value : Value) × (e.action ≡ Ends value)
+
+-- a task spawns this child
+pub record IsSpawnBy (task child : ℕ) (e : Event) : Type 0 where
+  pub task_is : e.task ≡ task
+  pub acts : (code : ℕ) × (kid : ℕ) × (cont : ℕ) × (args : List Value) × (e.action ≡ Spawns code child kid cont args)
+
+-- a task creates this future
+pub record IsCreateBy (task child : ℕ) (e : Event) : Type 0 where
+  pub task_is : e.task ≡ task
+  pub acts : (code : ℕ) × (kid : ℕ) × (cont : ℕ) × (args : List Value) × (e.action ≡ Creates code child kid cont args)
+
+-- a task goes on after it waited for a future
+pub record IsGetBy (task future : ℕ) (e : Event) : Type 0 where
+  pub task_is : e.task ≡ task
+  pub acts : (value : Value) × (strand : ℕ) × (e.action ≡ Gets future value strand)
+
+-- a task goes on after it waited for the children of its block
+pub record IsSyncBy (task : ℕ) (e : Event) : Type 0 where
+  pub task_is : e.task ≡ task
+  pub acts : (strand : ℕ) × (e.action ≡ Syncs strand)

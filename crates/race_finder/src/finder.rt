@@ -3,10 +3,12 @@ ghost use Rattle.std.specs.Prelude.{◌≡◌, ◌^◌, ◌<◌, ◌≤◌, [], 
 ghost use Rattle.fut_base.specs.declared.event.Event.{Event};
 ghost use Rattle.fut_base.specs.Racing.{IsReport};
 ghost use Rattle.access_shards.specs.Kept.{IsKept};
-ghost use Rattle.race_finder.specs.Finding.{IsFinderOf, MayTake, Takes, Stays, IsAccessBy, IsEndBy};
+ghost use Rattle.race_finder.specs.Finding.{IsFinderOf, MayTake, Takes, Stays, IsAccessBy, IsSpawnBy, IsCreateBy, IsSyncBy, IsGetBy, IsEndBy};
 
 use crate::cells::{grow, keep, report};
 use crate::doer::Doer;
+use crate::forks::{create_one, spawn_one};
+use crate::joins::{first_last, get_one, sync_one, table_after_get, table_of_block};
 use crate::places::Places;
 use access_shards::CellLog;
 use fut_base::list::{Listing, NoMemory};
@@ -69,6 +71,77 @@ impl Finder {
             &self.doers[task as usize],
             self.count,
             writes,
+        );
+        self.count += 1;
+        Ok(())
+    }
+
+    // A task spawns this child.
+    pub fn spawn(&mut self, task: u32, child: u32) -> Result<(), NoMemory>
+        requires { MayTake (IsSpawnBy task child) self.old }
+        ensures takes { OnOk result (Takes (IsSpawnBy task child) self.old self.new) }
+        ensures stays { OnErr result (Stays self.old self.new) }
+    {
+        self.places.reserve(2)?;
+        self.doers.reserve(1)?;
+        let kid = spawn_one(
+            self.alloc,
+            &mut self.places,
+            &mut self.doers[task as usize],
+            child,
+        )?;
+        self.doers.push_reserved(kid);
+        self.count += 1;
+        Ok(())
+    }
+
+    // A task creates this future.
+    pub fn create(&mut self, task: u32, child: u32) -> Result<(), NoMemory>
+        requires { MayTake (IsCreateBy task child) self.old }
+        ensures takes { OnOk result (Takes (IsCreateBy task child) self.old self.new) }
+        ensures stays { OnErr result (Stays self.old self.new) }
+    {
+        self.places.reserve(2)?;
+        self.doers.reserve(1)?;
+        let kid = create_one(
+            self.alloc,
+            &mut self.places,
+            &mut self.doers[task as usize],
+            child,
+        )?;
+        self.doers.push_reserved(kid);
+        self.count += 1;
+        Ok(())
+    }
+
+    // A task goes on after it waited for a future.
+    pub fn get(&mut self, task: u32, future: u32) -> Result<(), NoMemory>
+        requires { MayTake (IsGetBy task future) self.old }
+        ensures takes { OnOk result (Takes (IsGetBy task future) self.old self.new) }
+        ensures stays { OnErr result (Stays self.old self.new) }
+    {
+        self.places.reserve(1)?;
+        let reach = table_after_get(self.doers.as_slice(), &self.places, task, future)?;
+        get_one(&mut self.places, &mut self.doers[task as usize], reach);
+        self.count += 1;
+        Ok(())
+    }
+
+    // A task goes on after it waited for the children of its block.
+    pub fn sync(&mut self, task: u32) -> Result<(), NoMemory>
+        requires { MayTake (IsSyncBy task) self.old }
+        ensures takes { OnOk result (Takes (IsSyncBy task) self.old self.new) }
+        ensures stays { OnErr result (Stays self.old self.new) }
+    {
+        self.places.reserve(1)?;
+        let reach = table_of_block(self.doers.as_slice(), &self.places, task)?;
+        let last = first_last(self.doers.as_slice(), &self.places, task);
+        sync_one(
+            self.alloc,
+            &mut self.places,
+            &mut self.doers[task as usize],
+            reach,
+            last,
         );
         self.count += 1;
         Ok(())

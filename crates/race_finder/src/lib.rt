@@ -4,6 +4,8 @@
 mod cells;
 mod doer;
 mod finder;
+mod forks;
+mod joins;
 mod places;
 
 pub use finder::Finder;

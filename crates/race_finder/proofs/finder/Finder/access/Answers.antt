@@ -13,9 +13,9 @@ returns-in_err-reserve-clause-stays c =
     let grown = c.grow.new.logs.items in
     let there = c.in_ok-grow.ensures.there in
     rw p.1 (λ h k.
-      let few = c.grow.ensures.few (2 ^ 32) k.few (omega (arith, c.ranges.cell.fits)) in
-      knows_room h f.places.english f.places.hebrew f.doers.items f.logs.items grown f.count c.args.cell c.index_mut.result.now c.reserve.new.self k (c.grow.ensures.cells h k.cells) few
-      (slice_get_read grown (length grown) c.args.cell c.index_mut.result.now refl there c.index_mut.ensures.value) c.reserve.ensures.kept)
+    let few = c.grow.ensures.few (2 ^ 32) k.few (omega (arith, c.ranges.cell.fits)) in
+    knows_room h f.places.english f.places.hebrew f.doers.items f.logs.items grown f.count c.args.cell c.index_mut.result.now c.reserve.new.self k (c.grow.ensures.cells h k.cells) few
+    (slice_get_read grown (length grown) c.args.cell c.index_mut.result.now refl there c.index_mut.ensures.value) c.reserve.ensures.kept)
 
 pub index-requires : goal.index-requires
 index-requires c =
