@@ -35,7 +35,7 @@ strands_in s english hebrew sound o =
     let k = orders_have_strands (reverse s) sound in
     (ap (length {A = ℕ}) o.english_is ∙ k.0, ap (length {A = ℕ}) o.hebrew_is ∙ k.1)
 
-strand_known : (s : List Event) (english hebrew : List ℕ) → IsSound s → AreOrders s english hebrew → (v : Strand) → IsStrandOf s v → v.number < length english
+pub strand_known : (s : List Event) (english hebrew : List ℕ) → IsSound s → AreOrders s english hebrew → (v : Strand) → IsStrandOf s v → v.number < length english
 strand_known s english hebrew sound o v of = let k = strands_in s english hebrew sound o in omega (arith, k.0, of.there)
 
 pub view_of : (s : List Event) (english hebrew : List ℕ) (t : ℕ) (d : Doer) → IsSound s → AreOrders s english hebrew → IsDoerOf s t d → IsViewOf s d.reach d.at (length english) english hebrew

@@ -1,9 +1,11 @@
 -- The tables of strands after gets and syncs.
-use Rattle.std.proofs.Common.{◌≡◌, ℕ, zero, suc, ◌+◌, ◌<◌, ◌≤◌, Bool, true, false, List, [], ◌∷◌, ◌++◌, length, reverse, get_or, take, inl, inr, subst, ap, sym, refl, ◌∙◌, arith, slice_get}
-use Rattle.std.specs.Prelude.{Option, Some, None, IsSome, cons_option}
+use Rattle.std.proofs.Common.{◌≡◌, ℕ, zero, suc, ◌+◌, ◌<◌, ◌≤◌, Bool, true, false, true≢false, List, [], ◌∷◌, ◌++◌, length, reverse, get_or, take, inl, inr, subst, ap, sym, refl, ◌∙◌, arith, slice_get}
+use Rattle.std.specs.Prelude.{Option, Some, None, IsSome}
+use Rattle.std.specs.List.{cons_option}
 use Rattle.std.proofs.Math.Seq.{take-suc}
 use Rattle.std.proofs.lemmas.List.Elements.{filter_map-append}
 use Rattle.std.proofs.lemmas.Bool.{cases_lt}
+use Rattle.std.proofs.lemmas.Option.{slice_get_within, get_or_from_slice_get}
 use Rattle.fut_base.specs.declared.record.Value.{Value}
 use Rattle.fut_base.specs.declared.event.Event.{Event}
 use Rattle.fut_base.specs.declared.event.Action.TheVariants.{Syncs, Gets}
@@ -16,7 +18,7 @@ use Rattle.strand_laws.proofs.Links.{linked, shown}
 use Rattle.strand_laws.proofs.Held.{value_ended, is_task}
 use Rattle.strand_laws.proofs.Places.{among_or}
 use Rattle.strand_tree.specs.declared.strand.Strand.{Strand}
-use Rattle.strand_tree.specs.Placing.{AreOrders, IsLastOf}
+use Rattle.strand_tree.specs.Placing.{AreOrders, IsIn, IsLastOf}
 use Rattle.reach_table.specs.Merging.{together, IsMergedOf}
 use Rattle.reach_table.specs.Tabled.{and_then, AfterGet, MergesOneMore}
 use Rattle.reach_table.specs.Telling.{AllKnown, HasTable, OrdersAgree}
@@ -26,7 +28,7 @@ use Rattle.race_finder.specs.declared.doer.Doer.{Doer}
 use Rattle.race_finder.specs.Places.{Placed}
 use Rattle.race_finder.specs.Finding.{last_if, IsDoerOf}
 use Rattle.race_finder.specs.Acting.{AreOf, MaySync}
-use Rattle.race_finder.proofs.Accesses.{view_of, doer_known, strand_known}
+use Rattle.race_finder.proofs.Accesses.{strands_in, view_of, doer_known, strand_known}
 use Rattle.race_finder.proofs.Structural.{followed}
 
 ended_last : (b : Bool) (m n : ℕ) → last_if b m ≡ Some n → last_if b m ≡ Some m
@@ -37,7 +39,7 @@ last_some : (past : List Event) → IsSoundPast past → (t : ℕ) → (frame pa
 last_some past sp t e = (linked past sp).last t ∙ ap (λ b. shown b (frame past t).cur) e
 
 no_some : (o : Option ℕ) → o ≡ None → IsSome o → ⊥
-no_some None is h = h
+no_some None is h = true≢false (sym h)
 no_some (Some x) is h = cc
 
 -- a task that has ended was begun
@@ -107,7 +109,7 @@ module _ (s : List Event) (places : Placed) (doers : List Doer) (lists : Lists) 
       (more s (d.at.number ∷ lasts_of past (take i block)) o.at.number of.sound m oo.strand.there oo.table refl (agree task d at))
     where
       ended_some : (q : Option ℕ) → IsSome q → q ≡ last_if o.ended o.at.number → q ≡ Some o.at.number
-      ended_some None h is = absurd h
+      ended_some None h is = absurd (true≢false (sym h))
       ended_some (Some x) h is = is ∙ ended_last o.ended o.at.number x (sym is)
 
 -- nothing is merged yet
@@ -136,6 +138,24 @@ block_child s places doers task d i child may at lt is =
     let some = subst (λ c. IsSome (last_of (reverse s) c)) (sym is) (child_ended (reverse s) d.block.items i ended lt) in
     let there = last_there (reverse s) may.of.sound child some in
     (some, omega (arith, there, may.of.tasks.count))
+
+pub block_at : (s : List Event) (places : Placed) (doers : List Doer) (task : ℕ) (d : Doer) (i child : ℕ) → MaySync s places doers task → slice_get doers task ≡ Some d → slice_get d.block.items i ≡ Some child
+    → IsSome (last_of (reverse s) child) × (child < length doers)
+block_at s places doers task d i child may at is =
+    block_child s places doers task d i child may at (slice_get_within d.block.items i child is) (sym (get_or_from_slice_get d.block.items i child 0 is))
+
+pub child_last : (s : List Event) (places : Placed) (doers : List Doer) (child : ℕ) (o : Doer) → AreOf s places doers → slice_get doers child ≡ Some o → IsSome (last_of (reverse s) child) → last_of (reverse s) child ≡ Some o.at.number
+child_last s places doers child o of ot some = ended_some (last_of (reverse s) child) some (of.tasks.each child o ot).last_is
+  where
+    ended_some : (q : Option ℕ) → IsSome q → q ≡ last_if o.ended o.at.number → q ≡ Some o.at.number
+    ended_some None h is = absurd (true≢false (sym h))
+    ended_some (Some x) h is = is ∙ ended_last o.ended o.at.number x (sym is)
+
+pub doer_in : (s : List Event) (places : Placed) (doers : List Doer) (t : ℕ) (d : Doer) → AreOf s places doers → slice_get doers t ≡ Some d → IsIn d.at.number places.english places.hebrew
+doer_in s places doers t d of at =
+    let k = doer_known s places.english places.hebrew t d of.sound of.orders (of.tasks.each t d at) in
+    let n = strands_in s places.english places.hebrew of.sound of.orders in
+    record { first = k.0; second = omega (arith, k.0, n.0, n.1) }
 
 -- the last strand of a block's first child
 pub first_is : (past : List Event) (block : List ℕ) (child : ℕ) (v : Strand) → slice_get block 0 ≡ Some child → last_of past child ≡ Some v.number → IsLastOf past block (Some v)

@@ -16,7 +16,7 @@ use Rattle.access_shards.specs.Touches.{Touch}
 use Rattle.access_shards.specs.Kept.{Kind, reading, writing, touch}
 use Rattle.access_shards.specs.Histories.{kind_of, touches_past, touches_of, IsStanding, AreStanding, IsInStep}
 
-abbrev by_structure : Event → Bool
+abbrev pub by_structure : Event → Bool
 by_structure e = structural e.action
 
 -- accesses change nothing of the current and last strands

@@ -50,10 +50,12 @@ pub fn first_last(doers: &[Doer], places: &Places, task: u32) -> Option<Strand>
     ensures last { (s : List Event) → MaySync s places.now doers.now task → IsLastOfFirst s task result }
     ensures there { IfSome result (λ last. IsIn last.number places.now.english places.now.hebrew) }
 {
-    match doers[task as usize].block.at(0) {
-        Some(child) => Some(doers[*child as usize].at),
-        None => None,
-    }
+    let doer = &doers[task as usize];
+    let Some(child) = doer.block.at(0) else {
+        return None;
+    };
+    let first = &doers[*child as usize];
+    Some(first.at)
 }
 
 /// A task goes on after a get, on a strand with this table.
