@@ -1,7 +1,9 @@
 //! The finder.
-ghost use Rattle.std.specs.Prelude.{◌≡◌, ◌^◌, ◌<◌, ◌≤◌, [], ◌∷◌, List, length, IfOk, OnOk, OnErr};
+ghost use Rattle.std.specs.Prelude.{◌≡◌, ◌^◌, ◌<◌, ◌≤◌, [], ◌∷◌, ◌++◌, List, length, IfOk, OnOk, OnErr};
 ghost use Rattle.fut_base.specs.declared.event.Event.{Event};
+ghost use Rattle.fut_base.specs.Events.{event_of};
 ghost use Rattle.fut_base.specs.Racing.{IsReport};
+ghost use Rattle.access_shards.specs.Histories.{IsInStep};
 ghost use Rattle.access_shards.specs.Kept.{IsKept};
 ghost use Rattle.race_finder.specs.Finding.{IsFinderOf, MayTake, Takes, Stays, IsAccessBy, IsSpawnBy, IsCreateBy, IsSyncBy, IsGetBy, IsEndBy};
 
@@ -12,7 +14,7 @@ use crate::joins::{first_last, get_one, sync_one, table_after_get, table_of_bloc
 use crate::places::Places;
 use access_shards::CellLog;
 use fut_base::list::{Listing, NoMemory};
-use fut_base::record::Races;
+use fut_base::record::{Act, Entry, Races};
 use reach_table::Reach;
 use std::alloc::Global;
 use strand_tree::root;
@@ -49,6 +51,26 @@ impl Finder {
         })
     }
 
+    /// Takes one more entry, after fewer than 2^29. After `NoMemory` it still knows what it knew.
+    pub fn take(&mut self, entry: &Entry) -> Result<(), NoMemory>
+        requires { (h : List Event) × IsFinderOf h self.old × IsInStep (h ++ event_of entry.now ∷ []) × (length h < 2 ^ 29) }
+        ensures takes { OnOk result ((h : List Event) → IsFinderOf h self.old → IsInStep (h ++ event_of entry.now ∷ []) → IsFinderOf (h ++ event_of entry.now ∷ []) self.new) }
+        ensures stays { OnErr result ((h : List Event) → IsFinderOf h self.old → IsFinderOf h self.new) }
+    {
+        match &entry.act {
+            Act::Read { cell, .. } => self.access(entry.task, *cell, false),
+            Act::Write { cell, .. } => self.access(entry.task, *cell, true),
+            Act::Spawn { child, .. } => self.spawn(entry.task, *child),
+            Act::Create { child, .. } => self.create(entry.task, *child),
+            Act::Sync { .. } => self.sync(entry.task),
+            Act::Get { future, .. } => self.get(entry.task, *future),
+            Act::End { .. } => {
+                self.end(entry.task);
+                Ok(())
+            }
+        }
+    }
+
     /// The races of the entries so far: the racing cells in order, each with its first pair.
     pub fn races(&self, alloc: Global) -> Result<Races, NoMemory>
         requires { (h : List Event) × IsFinderOf h self.now }
@@ -58,7 +80,7 @@ impl Finder {
     }
 
     // A task reads or writes a cell.
-    pub fn access(&mut self, task: u32, cell: u32, writes: bool) -> Result<(), NoMemory>
+    fn access(&mut self, task: u32, cell: u32, writes: bool) -> Result<(), NoMemory>
         requires { MayTake (IsAccessBy task cell writes) self.old }
         ensures takes { OnOk result (Takes (IsAccessBy task cell writes) self.old self.new) }
         ensures stays { OnErr result (Stays self.old self.new) }
@@ -77,7 +99,7 @@ impl Finder {
     }
 
     // A task spawns this child.
-    pub fn spawn(&mut self, task: u32, child: u32) -> Result<(), NoMemory>
+    fn spawn(&mut self, task: u32, child: u32) -> Result<(), NoMemory>
         requires { MayTake (IsSpawnBy task child) self.old }
         ensures takes { OnOk result (Takes (IsSpawnBy task child) self.old self.new) }
         ensures stays { OnErr result (Stays self.old self.new) }
@@ -96,7 +118,7 @@ impl Finder {
     }
 
     // A task creates this future.
-    pub fn create(&mut self, task: u32, child: u32) -> Result<(), NoMemory>
+    fn create(&mut self, task: u32, child: u32) -> Result<(), NoMemory>
         requires { MayTake (IsCreateBy task child) self.old }
         ensures takes { OnOk result (Takes (IsCreateBy task child) self.old self.new) }
         ensures stays { OnErr result (Stays self.old self.new) }
@@ -115,7 +137,7 @@ impl Finder {
     }
 
     // A task goes on after it waited for a future.
-    pub fn get(&mut self, task: u32, future: u32) -> Result<(), NoMemory>
+    fn get(&mut self, task: u32, future: u32) -> Result<(), NoMemory>
         requires { MayTake (IsGetBy task future) self.old }
         ensures takes { OnOk result (Takes (IsGetBy task future) self.old self.new) }
         ensures stays { OnErr result (Stays self.old self.new) }
@@ -128,7 +150,7 @@ impl Finder {
     }
 
     // A task goes on after it waited for the children of its block.
-    pub fn sync(&mut self, task: u32) -> Result<(), NoMemory>
+    fn sync(&mut self, task: u32) -> Result<(), NoMemory>
         requires { MayTake (IsSyncBy task) self.old }
         ensures takes { OnOk result (Takes (IsSyncBy task) self.old self.new) }
         ensures stays { OnErr result (Stays self.old self.new) }
@@ -148,7 +170,7 @@ impl Finder {
     }
 
     // A task ends.
-    pub fn end(&mut self, task: u32)
+    fn end(&mut self, task: u32)
         requires { MayTake (IsEndBy task) self.old }
         ensures { Takes (IsEndBy task) self.old self.new }
     {
