@@ -1,16 +1,15 @@
 -- One more access in what a finder knows.
-use Rattle.std.proofs.Common.{◌≡◌, ◌≢◌, ℕ, ◌+◌, ◌<◌, ◌≤◌, ◌^◌, Bool, List, [], ◌∷◌, ◌++◌, length, reverse, set, inl, inr, subst, ap, sym, refl, ◌∙◌, arith, option_to_list, slice_get, length-append}
+use Rattle.std.proofs.Common.{◌≡◌, ℕ, ◌+◌, ◌<◌, ◌≤◌, ◌^◌, List, [], ◌∷◌, ◌++◌, length, reverse, set, inl, inr, subst, ap, sym, ◌∙◌, arith, option_to_list, slice_get, length-append}
 use Rattle.std.specs.Prelude.{Option, Some, None}
 use Rattle.std.proofs.lemmas.List.{append-nil, length-set}
 use Rattle.fut_base.specs.declared.event.Event.{Event}
 use Rattle.fut_base.specs.Events.{structure_of}
-use Rattle.fut_base.specs.Dag.{Among, edges_of, last_of}
-use Rattle.fut_base.specs.Sound.{IsSound, current, next_strand}
-use Rattle.fut_base.specs.Orders.{english_of, hebrew_of}
+use Rattle.fut_base.specs.Dag.{Among, edges_of}
+use Rattle.fut_base.specs.Sound.{IsSound, next_strand}
 use Rattle.strand_laws.proofs.Structure.{structure_has_edges}
 use Rattle.strand_laws.proofs.Homes.{orders_have_strands}
 use Rattle.strand_laws.proofs.Links.{linked}
-use Rattle.strand_laws.proofs.Places.{among_or, among_left}
+use Rattle.strand_laws.proofs.Places.{among_or}
 use Rattle.strand_tree.specs.declared.strand.Strand.{Strand}
 use Rattle.strand_tree.specs.Placing.{IsStrandOf, AreOrders}
 use Rattle.reach_table.specs.Telling.{AllKnown}
@@ -19,7 +18,7 @@ use Rattle.access_shards.specs.declared.kept.Access.{Access}
 use Rattle.access_shards.specs.declared.kept.Kept.{Kept}
 use Rattle.access_shards.specs.declared.kept.Kept.TheVariants.{Clean, Found}
 use Rattle.access_shards.specs.Touches.{Touch, IsLate, IsRising}
-use Rattle.access_shards.specs.Kept.{Kind, touch, AreKnown, KeepsOneMore, IsViewOf, MayCome, IsKept, IsWriter, Shows, all_kept}
+use Rattle.access_shards.specs.Kept.{Kind, touch, AreKnown, KeepsOneMore, IsViewOf, IsKept, IsWriter}
 use Rattle.access_shards.specs.Logged.{Logged}
 use Rattle.access_shards.specs.Histories.{kind_of, touches_of, IsInStep}
 use Rattle.access_shards.proofs.Growing.{current_may_come}
@@ -27,7 +26,7 @@ use Rattle.access_shards.proofs.Histories.{accesses_are_late}
 use Rattle.race_finder.specs.declared.doer.Doer.{Doer}
 use Rattle.race_finder.specs.Finding.{IsDoerOf, AreDoersOf, AreLogsOf, Knows}
 use Rattle.race_finder.proofs.Lists.{set_get, push_get}
-use Rattle.race_finder.proofs.Next.{turned, touched, untouched, structure_same, standing, current_of, last_in, kind_else, kind_plain}
+use Rattle.race_finder.proofs.Next.{touched, untouched, structure_same, standing, current_of, last_in, kind_else, kind_plain}
 
 -- the items of lists that are the orders are the strands
 pub strands_in : (s : List Event) (english hebrew : List ℕ) → IsSound s → AreOrders s english hebrew → (length english ≡ next_strand (reverse s)) × (length hebrew ≡ next_strand (reverse s))

@@ -1,5 +1,5 @@
 -- The tables of strands after gets and syncs.
-use Rattle.std.proofs.Common.{◌≡◌, ℕ, zero, suc, ◌+◌, ◌<◌, ◌≤◌, Bool, true, false, true≢false, List, [], ◌∷◌, ◌++◌, length, reverse, get_or, take, inl, inr, subst, ap, sym, refl, ◌∙◌, arith, slice_get}
+use Rattle.std.proofs.Common.{◌≡◌, ℕ, zero, suc, ◌+◌, ◌<◌, Bool, true, false, true≢false, List, [], ◌∷◌, ◌++◌, length, reverse, get_or, take, inl, inr, subst, ap, sym, refl, ◌∙◌, arith, slice_get}
 use Rattle.std.specs.Prelude.{Option, Some, None, IsSome}
 use Rattle.std.specs.List.{cons_option}
 use Rattle.std.proofs.Math.Seq.{take-suc}
@@ -8,9 +8,9 @@ use Rattle.std.proofs.lemmas.Bool.{cases_lt}
 use Rattle.std.proofs.lemmas.Option.{slice_get_within, get_or_from_slice_get}
 use Rattle.fut_base.specs.declared.record.Value.{Value}
 use Rattle.fut_base.specs.declared.event.Event.{Event}
-use Rattle.fut_base.specs.declared.event.Action.TheVariants.{Syncs, Gets}
-use Rattle.fut_base.specs.Dag.{Among, last_of, block_of}
-use Rattle.fut_base.specs.Sound.{IsSound, IsSoundPast, AllEnded, next_task, next_strand, value_of}
+use Rattle.fut_base.specs.declared.event.Action.TheVariants.{Gets}
+use Rattle.fut_base.specs.Dag.{last_of}
+use Rattle.fut_base.specs.Sound.{IsSound, IsSoundPast, AllEnded, next_task, value_of}
 use Rattle.fut_base.specs.Tables.{lasts_of}
 use Rattle.order_list.specs.Sides.{Lists}
 use Rattle.strand_laws.proofs.Frames.{frame}
@@ -26,7 +26,7 @@ use Rattle.reach_table.proofs.Events.{merge_begins}
 use Rattle.reach_table.proofs.Putting.{all_together}
 use Rattle.race_finder.specs.declared.doer.Doer.{Doer}
 use Rattle.race_finder.specs.Places.{Placed}
-use Rattle.race_finder.specs.Finding.{last_if, IsDoerOf}
+use Rattle.race_finder.specs.Finding.{last_if}
 use Rattle.race_finder.specs.Acting.{AreOf, MaySync}
 use Rattle.race_finder.proofs.Accesses.{strands_in, view_of, doer_known, strand_known}
 use Rattle.race_finder.proofs.Structural.{followed}

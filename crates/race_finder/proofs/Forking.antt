@@ -1,23 +1,18 @@
 -- What is remembered after a spawn and after a create.
-use Rattle.std.proofs.Common.{◌≡◌, ◌≢◌, ℕ, ◌+◌, ◌<◌, ◌≤◌, Bool, true, false, List, [], ◌∷◌, ◌++◌, length, reverse, subst, ap, sym, refl, ◌∙◌, arith, ◌==◌, ◌&&◌, if◌then◌else◌}
-use Rattle.std.specs.Prelude.{Option, Some, None}
+use Rattle.std.proofs.Common.{◌≡◌, ◌≢◌, ℕ, Bool, true, false, List, [], ◌∷◌, ◌++◌, reverse, subst, ap, sym, refl, ◌∙◌, arith, ◌==◌, ◌&&◌, if◌then◌else◌}
+use Rattle.std.specs.Prelude.{Option, Some}
 use Rattle.fut_base.specs.Listed.{Listed}
 use Rattle.fut_base.specs.declared.record.Value.{Value}
 use Rattle.fut_base.specs.declared.event.Event.{Event}
-use Rattle.fut_base.specs.declared.event.Action.{Action}
 use Rattle.fut_base.specs.declared.event.Action.TheVariants.{Spawns, Creates}
 use Rattle.fut_base.specs.Dag.{last_of, block_of}
 use Rattle.fut_base.specs.Sound.{IsSound, current, next_task}
 use Rattle.strand_laws.proofs.Links.{ev, if_off, if_self}
 use Rattle.strand_tree.specs.declared.strand.Strand.{Strand}
-use Rattle.strand_tree.specs.Placing.{IsStrandOf, AreOrders}
-use Rattle.reach_table.specs.Tabled.{and_then, AfterSpawn, KidAfterCreate}
+use Rattle.strand_tree.specs.Placing.{IsStrandOf}
 use Rattle.reach_table.specs.Telling.{HasTable}
-use Rattle.reach_table.proofs.Events.{after_create}
 use Rattle.race_finder.specs.declared.doer.Doer.{Doer}
-use Rattle.race_finder.specs.Places.{Placed}
 use Rattle.race_finder.specs.Finding.{last_if, IsDoerOf}
-use Rattle.race_finder.specs.Acting.{AreForked}
 use Rattle.race_finder.proofs.Next.{turned}
 use Rattle.race_finder.proofs.Structural.{followed, acting_there, acting_runs, new_block, new_last}
 

@@ -8,3 +8,4 @@ pub mod Forking
 pub mod Joining
 pub mod Blocks
 pub mod Taking
+pub mod Following

@@ -1,11 +1,10 @@
 -- What a list has at a place after a change.
-use Rattle.std.proofs.Common.{◌≡◌, ◌≢◌, ℕ, ◌+◌, ◌<◌, ◌≤◌, List, [], ◌∷◌, ◌++◌, length, get_or, set, ◌⊎◌, inl, inr, sym, ◌∙◌, ap, subst, arith, slice_get, length-append, get_or-set_same, get_or-set_other}
-use Rattle.std.specs.Prelude.{Option, Some, None}
+use Rattle.std.proofs.Common.{◌≡◌, ◌≢◌, ℕ, ◌+◌, ◌<◌, List, [], ◌∷◌, ◌++◌, length, get_or, set, ◌⊎◌, inl, inr, sym, ◌∙◌, ap, subst, arith, slice_get, length-append, get_or-set_same, get_or-set_other}
+use Rattle.std.specs.Prelude.{Some}
 use Rattle.std.proofs.lemmas.Bool.{cases_lt}
 use Rattle.std.proofs.lemmas.List.{length-set, get_or_push}
 use Rattle.std.proofs.lemmas.Option.{slice_get-get_or, slice_get_within, get_or_from_slice_get}
 use Rattle.std.proofs.Math.ListN.{get_or-append}
-use Rattle.fut_base.specs.Dag.{Among}
 use Rattle.strand_laws.proofs.Places.{same_or_not}
 
 -- after a write the list has the new item there, and elsewhere what it had

@@ -1,5 +1,5 @@
 -- Items put into two lists once more.
-use Rattle.std.proofs.Common.{◌≡◌, ℕ, suc, ◌+◌, ◌<◌, ◌≤◌, List, [], ◌∷◌, ◌++◌, length, get_or, drop, refl, sym, ◌∙◌, subst, ap, arith, length-append}
+use Rattle.std.proofs.Common.{◌≡◌, ℕ, suc, ◌+◌, ◌<◌, List, [], ◌∷◌, ◌++◌, length, get_or, drop, refl, sym, ◌∙◌, subst, ap, arith, length-append}
 use Rattle.std.proofs.Math.Seq.{drop-cons}
 use Rattle.order_list.specs.Ordered.{put_after}
 use Rattle.order_list.specs.Sides.{Lists, AreKept}

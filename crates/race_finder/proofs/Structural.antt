@@ -1,5 +1,5 @@
 -- One more structural event in what a finder knows.
-use Rattle.std.proofs.Common.{◌≡◌, ◌≢◌, ℕ, ◌+◌, ◌<◌, ◌≤◌, Bool, true, false, List, [], ◌∷◌, ◌++◌, length, reverse, set, inl, inr, subst, ap, sym, refl, ◌∙◌, arith, slice_get, length-append, ◌==◌, ◌&&◌, if◌then◌else◌}
+use Rattle.std.proofs.Common.{◌≡◌, ◌≢◌, ℕ, ◌+◌, ◌<◌, Bool, true, false, List, [], ◌∷◌, ◌++◌, length, reverse, set, inl, inr, subst, ap, sym, refl, ◌∙◌, arith, slice_get, length-append, ◌&&◌, if◌then◌else◌}
 use Rattle.std.specs.Prelude.{Option, Some, None}
 use Rattle.std.proofs.lemmas.List.{length-set}
 use Rattle.std.proofs.lemmas.Option.{slice_get_within}
@@ -8,10 +8,10 @@ use Rattle.fut_base.specs.declared.event.Event.{Event}
 use Rattle.fut_base.specs.declared.event.Action.{Action}
 use Rattle.fut_base.specs.declared.event.Action.TheVariants.{Reads, Writes, Spawns, Creates, Syncs, Gets, Ends}
 use Rattle.fut_base.specs.Events.{structural, structure_of}
-use Rattle.fut_base.specs.Dag.{last_of, block_of, block_after, ends}
+use Rattle.fut_base.specs.Dag.{last_of, block_of, ends}
 use Rattle.fut_base.specs.Orders.{english_past, hebrew_past}
-use Rattle.fut_base.specs.Sound.{IsSound, IsSoundPast, MayFollow, MayAct, current, current_by, next_task, tasks_by}
-use Rattle.strand_laws.proofs.Links.{ev, if_off, if_self, linked, shown, shown_none}
+use Rattle.fut_base.specs.Sound.{IsSound, IsSoundPast, MayAct, current, current_by, next_task, tasks_by}
+use Rattle.strand_laws.proofs.Links.{ev, if_off, if_self, linked, shown}
 use Rattle.strand_laws.proofs.Frames.{frame}
 use Rattle.strand_laws.proofs.Places.{by_eq}
 use Rattle.strand_tree.specs.Placing.{AreOrders}

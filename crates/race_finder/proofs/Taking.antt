@@ -1,8 +1,7 @@
 -- Structural events that come next.
-use Rattle.std.proofs.Common.{◌≡◌, ℕ, ◌+◌, ◌*◌, ◌<◌, ◌≤◌, ◌^◌, Bool, true, false, cond, List, [], ◌∷◌, ◌++◌, length, reverse, filter, set, inl, inr, subst, ap, sym, refl, ◌∙◌, arith, slice_get}
-use Rattle.std.specs.Prelude.{Option, Some, None}
+use Rattle.std.proofs.Common.{◌≡◌, ℕ, ◌+◌, ◌*◌, ◌≤◌, Bool, true, false, cond, List, [], ◌∷◌, ◌++◌, length, reverse, filter, set, inl, inr, subst, ap, sym, refl, ◌∙◌, arith, slice_get}
+use Rattle.std.specs.Prelude.{Option, Some}
 use Rattle.std.proofs.lemmas.List.{length-reverse, length-set}
-use Rattle.fut_base.specs.declared.record.Value.{Value}
 use Rattle.fut_base.specs.declared.event.Event.{Event}
 use Rattle.fut_base.specs.declared.event.Action.{Action}
 use Rattle.fut_base.specs.declared.event.Action.TheVariants.{Reads, Writes, Spawns, Creates, Syncs, Gets, Ends}
@@ -12,9 +11,8 @@ use Rattle.fut_base.specs.Sound.{IsSound, MayAct, AllEnded, next_task, next_stra
 use Rattle.strand_laws.proofs.Links.{ev}
 use Rattle.strand_laws.proofs.Structure.{reverse_filter}
 use Rattle.strand_tree.specs.declared.strand.Strand.{Strand}
-use Rattle.strand_tree.specs.Placing.{AreNext, AreOrders, IsStrandOf, IsLastOfFirst}
+use Rattle.strand_tree.specs.Placing.{AreNext, IsStrandOf, IsLastOfFirst}
 use Rattle.reach_table.specs.Telling.{HasTable}
-use Rattle.reach_table.specs.Tabled.{and_then}
 use Rattle.reach_table.proofs.Events.{after_sync}
 use Rattle.access_shards.specs.Logged.{Logged}
 use Rattle.access_shards.specs.Histories.{IsInStep}

@@ -1,11 +1,10 @@
 -- What a finder knows of a history.
-use Rattle.std.specs.Prelude.{◌≡◌, ℕ, ◌+◌, ◌^◌, ◌<◌, ◌≤◌, Bool, true, false, List, [], ◌∷◌, ◌++◌, length, reverse, slice_get, Option, Some, None}
+use Rattle.std.specs.Prelude.{◌≡◌, ℕ, ◌^◌, ◌<◌, ◌≤◌, Bool, true, false, List, [], ◌∷◌, ◌++◌, length, reverse, slice_get, Option, Some, None}
 use Rattle.fut_base.specs.declared.record.Value.{Value}
 use Rattle.fut_base.specs.declared.event.Event.{Event}
-use Rattle.fut_base.specs.declared.event.Action.{Action}
 use Rattle.fut_base.specs.declared.event.Action.TheVariants.{Spawns, Creates, Syncs, Gets, Ends}
 use Rattle.fut_base.specs.Events.{structure_of}
-use Rattle.fut_base.specs.Dag.{Among, last_of, block_of}
+use Rattle.fut_base.specs.Dag.{last_of, block_of}
 use Rattle.fut_base.specs.Sound.{current, next_task}
 use Rattle.strand_tree.specs.Placing.{IsStrandOf, AreOrders}
 use Rattle.reach_table.specs.Telling.{HasTable}

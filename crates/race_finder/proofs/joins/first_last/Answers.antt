@@ -1,4 +1,4 @@
-use Rattle.std.proofs.Common.{length, reverse, refl, sym, subst, slice_get}
+use Rattle.std.proofs.Common.{length, reverse, refl, sym, subst}
 use Rattle.std.specs.Prelude.{Some, None}
 use Rattle.std.proofs.lemmas.Option.{slice_get_read}
 use Rattle.strand_tree.specs.Placing.{IsLastOf}

@@ -1,5 +1,4 @@
-use Rattle.std.proofs.Common.{◌≡◌, ◌+◌, ◌∙◌, List, ℕ, length, reverse, slice_get, arith, refl, sym, ap, subst}
-use Rattle.std.specs.Prelude.{Some}
+use Rattle.std.proofs.Common.{◌+◌, List, ℕ, length, reverse, arith, refl, ap, subst}
 use Rattle.std.proofs.lemmas.Option.{slice_get_read}
 use Rattle.fut_base.specs.Events.{structure_of}
 use Rattle.race_finder.specs.declared.doer.Doer.{Doer}
