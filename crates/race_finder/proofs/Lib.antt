@@ -1,0 +1,11 @@
+pub mod Placing
+pub mod Lists
+pub mod Next
+pub mod Accesses
+pub mod Reporting
+pub mod Structural
+pub mod Forking
+pub mod Joining
+pub mod Blocks
+pub mod Taking
+pub mod Following

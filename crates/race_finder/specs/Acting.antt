@@ -1,0 +1,85 @@
+-- What one task's event does to what is remembered.
+use Rattle.std.specs.Prelude.{◌≡◌, ℕ, List, ◌∷◌, reverse, slice_get, Option, Some}
+use Rattle.fut_base.specs.declared.record.Value.{Value}
+use Rattle.fut_base.specs.declared.event.Event.{Event}
+use Rattle.fut_base.specs.declared.event.Action.TheVariants.{Spawns, Creates, Syncs, Gets}
+use Rattle.fut_base.specs.Dag.{block_of}
+use Rattle.fut_base.specs.Sound.{IsSound, AllEnded}
+use Rattle.fut_base.specs.Tables.{lasts_of}
+use Rattle.strand_tree.specs.Placing.{AreOrders, IsLastOfFirst}
+use Rattle.strand_tree.specs.declared.strand.Strand.{Strand}
+use Rattle.reach_table.specs.Tabled.{and_then}
+use Rattle.reach_table.specs.Telling.{HasTable}
+use Rattle.reach_table.specs.Merging.{IsMergedOf}
+use Rattle.race_finder.specs.declared.doer.Doer.{Doer}
+use Rattle.race_finder.specs.Places.{Placed}
+use Rattle.race_finder.specs.Finding.{IsDoerOf, AreDoersOf}
+
+-- two lists are the orders of these events, and a task and its child are what is remembered of them
+pub record AreForked (s : List Event) (places : Placed) (task child : ℕ) (doer kid : Doer) : Type 0 where
+  pub orders : AreOrders s places.english places.hebrew
+  pub acting : IsDoerOf s task doer
+  pub made : IsDoerOf s child kid
+
+-- where a task spawns this child after some structural events, what was right of these is right with the spawn
+abbrev pub SpawnsOne : Placed → Doer → ℕ → Placed → Doer → Doer → Type 0
+SpawnsOne places doer child places' doer' kid =
+    (s : List Event) (task code : ℕ) (args : List Value) → IsSound (and_then s task doer.at.number (Spawns code child kid.at.number doer'.at.number args))
+    → AreOrders s places.english places.hebrew → IsDoerOf s task doer
+    → AreForked (and_then s task doer.at.number (Spawns code child kid.at.number doer'.at.number args)) places' task child doer' kid
+
+-- the same where it creates a future
+abbrev pub CreatesOne : Placed → Doer → ℕ → Placed → Doer → Doer → Type 0
+CreatesOne places doer child places' doer' kid =
+    (s : List Event) (task code : ℕ) (args : List Value) → IsSound (and_then s task doer.at.number (Creates code child kid.at.number doer'.at.number args))
+    → AreOrders s places.english places.hebrew → IsDoerOf s task doer
+    → AreForked (and_then s task doer.at.number (Creates code child kid.at.number doer'.at.number args)) places' task child doer' kid
+
+-- a task is remembered as before, but for its list's room
+pub record IsSameDoer (old new : Doer) : Type 0 where
+  pub at_is : new.at ≡ old.at
+  pub table_is : new.reach ≡ old.reach
+  pub block_is : new.block.items ≡ old.block.items
+  pub ended_is : new.ended ≡ old.ended
+
+-- two lists are the orders of these events, and this is remembered of a task
+pub record AreJoined (s : List Event) (places : Placed) (task : ℕ) (doer : Doer) : Type 0 where
+  pub orders : AreOrders s places.english places.hebrew
+  pub acting : IsDoerOf s task doer
+
+-- where a task goes on after a get, on a strand with this table, what was right of the events before is right with the get
+abbrev pub GetsOne : Placed → Doer → List Strand → Placed → Doer → Type 0
+GetsOne places doer table places' doer' =
+    (s : List Event) (task future : ℕ) (value : Value) → IsSound (and_then s task doer.at.number (Gets future value doer'.at.number))
+    → AreOrders s places.english places.hebrew → IsDoerOf s task doer → HasTable (and_then s task doer.at.number (Gets future value doer'.at.number)) doer'.at.number table
+    → AreJoined (and_then s task doer.at.number (Gets future value doer'.at.number)) places' task doer'
+
+-- the same where it goes on after a sync, and this is the last strand of its block's first child
+abbrev pub SyncsOne : Placed → Doer → List Strand → Option Strand → Placed → Doer → Type 0
+SyncsOne places doer table last places' doer' =
+    (s : List Event) (task : ℕ) → IsSound (and_then s task doer.at.number (Syncs doer'.at.number))
+    → AreOrders s places.english places.hebrew → IsDoerOf s task doer → IsLastOfFirst s task last → HasTable (and_then s task doer.at.number (Syncs doer'.at.number)) doer'.at.number table
+    → AreJoined (and_then s task doer.at.number (Syncs doer'.at.number)) places' task doer'
+
+-- two lists and tasks are those of some sound structural events
+pub record AreOf (s : List Event) (places : Placed) (doers : List Doer) : Type 0 where
+  pub sound : IsSound s
+  pub orders : AreOrders s places.english places.hebrew
+  pub tasks : AreDoersOf s doers
+
+-- after a get of a future, the task's new strand has this table
+abbrev pub TableAfterGet : Placed → List Doer → ℕ → ℕ → List Strand → Type 0
+TableAfterGet places doers task future table =
+    (s : List Event) (value : Value) (strand : ℕ) (d : Doer) → AreOf s places doers → slice_get doers task ≡ Some d
+    → IsSound (and_then s task d.at.number (Gets future value strand)) → HasTable (and_then s task d.at.number (Gets future value strand)) strand table
+
+-- a task may sync: the children of its block have ended
+pub record MaySync (s : List Event) (places : Placed) (doers : List Doer) (task : ℕ) : Type 0 where
+  pub of : AreOf s places doers
+  pub ended : AllEnded (reverse s) (block_of (reverse s) task)
+
+-- what the tables of a task's strand and of the last strands of its block's children leave
+abbrev pub TableOfBlock : Placed → List Doer → ℕ → List Strand → Type 0
+TableOfBlock places doers task table =
+    (s : List Event) (d : Doer) → MaySync s places doers task → slice_get doers task ≡ Some d
+    → IsMergedOf s d.at.future (d.at.number ∷ lasts_of (reverse s) (block_of (reverse s) task)) table
