@@ -14,7 +14,7 @@ use Rattle.fut_base.specs.Sound.{value_by}
 use Rattle.task_machine.specs.Runs.{IsStateAfter}
 use Rattle.task_code.specs.declared.task.Spot.{Spot}
 use Rattle.task_code.specs.declared.task.Wish.TheVariants as wish
-use Rattle.task_code.specs.Frames.{Held}
+use Rattle.task_frame.specs.Frames.{Held}
 use Rattle.task_code.specs.Flat.{Compiled, code_of}
 use Rattle.task_code.specs.Tasks.{TaskNow, IsTaskOf, IsSomeTask, IsStill, StopsAt, Wishes, ended_after, moves, trace_events}
 use Rattle.task_code.specs.declared.task.Wish as asked

@@ -7,11 +7,11 @@ use Rattle.fut_syntax.specs.Trees as tree
 use Rattle.fut_syntax.specs.Views.{type_tree}
 use Rattle.task_machine.specs.Variables.{Slot, Many, Variables, slot_at, size_of, taken, bound}
 use Rattle.task_types.proofs.Slots.{by_bool, not_both, same_word, word_is}
-use Rattle.task_code.specs.declared.names.Name.{Name}
+use Rattle.task_frame.specs.declared.names.Name.{Name}
 use Rattle.task_code.specs.declared.code.Given.{Given}
 use Rattle.task_code.specs.declared.code.TaskCode.{TaskCode}
-use Rattle.task_code.specs.Frames.{slot_for, zero_slot}
-use Rattle.task_code.specs.Names.{find_name, rooms_by, Holds, HasRoom}
+use Rattle.task_frame.specs.Frames.{slot_for, zero_slot}
+use Rattle.task_frame.specs.Names.{find_name, rooms_by, Holds, HasRoom}
 use Rattle.task_code.specs.Flat.{AreGiven, code_or_none}
 use Rattle.task_code.specs.Starting.{taken_in, offset_of}
 use Rattle.task_code.proofs.Simulating.{below_names, one_word, unset}

@@ -9,11 +9,11 @@ use Rattle.fut_syntax.specs.Trees as tree
 use Rattle.task_machine.specs.Variables.{Variables}
 use Rattle.task_machine.specs.State.{TaskState, Wish, ToRead, ToWrite, ToSpawn, ToCreate, ToSync, ToGet, set_by, write_of, spawn_of, end_of, wish_by, wish_of, first_wish, receives, after_sync, effect_of, Answers}
 use Rattle.task_code.specs.declared.code.TaskCode.{TaskCode}
-use Rattle.task_code.specs.declared.instruction.Instruction.{Instruction}
-use Rattle.task_code.specs.declared.instruction.Fill.TheVariants as fill
+use Rattle.task_frame.specs.declared.instruction.Instruction.{Instruction}
+use Rattle.task_frame.specs.declared.instruction.Fill.TheVariants as fill
 use Rattle.task_code.specs.declared.task.Spot.{Spot}
-use Rattle.task_code.specs.Frames.{Held}
-use Rattle.task_code.specs.Names.{Holds, rooms_by}
+use Rattle.task_frame.specs.Frames.{Held}
+use Rattle.task_frame.specs.Names.{Holds, rooms_by}
 use Rattle.task_code.specs.Flat.{DoesStmt, fill_of}
 use Rattle.task_code.specs.Tasks.{Does, IsEnd, IsIn, where_of, received, received_by, slots_after, place_after, ended_after, spot_after}
 use Rattle.task_code.proofs.Simulating.{holds_filled, holds_refilled}

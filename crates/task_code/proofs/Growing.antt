@@ -6,9 +6,9 @@ use Rattle.fut_base.specs.declared.list.NoMemory.{NoMemory}
 use Rattle.fut_syntax.specs.declared.tree.Stmt.{Stmt}
 use Rattle.fut_syntax.specs.Trees as tree
 use Rattle.fut_syntax.specs.Views.{stmt_tree, block_tree}
-use Rattle.task_code.specs.declared.term.Term.{Term}
-use Rattle.task_code.specs.declared.instruction.Instruction.{Instruction}
-use Rattle.task_code.specs.declared.instruction.Instruction.TheVariants.{Branch}
+use Rattle.task_frame.specs.declared.term.Term.{Term}
+use Rattle.task_frame.specs.declared.instruction.Instruction.{Instruction}
+use Rattle.task_frame.specs.declared.instruction.Instruction.TheVariants.{Branch}
 use Rattle.task_code.specs.Flat.{Place, MeansExpr, Stands, DoesStmt, DoesBlock, DoesTail, Grows}
 
 get_more : (code more : List Instruction) (place : ℕ) (i : Instruction) → slice_get code place ≡ Some i → slice_get (code ++ more) place ≡ Some i

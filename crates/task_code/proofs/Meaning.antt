@@ -11,24 +11,24 @@ use Rattle.fut_base.specs.declared.list.NoMemory.{NoMemory}
 use Rattle.std.proofs.lemmas.List.{append-nil}
 use Rattle.task_machine.specs.Values.{number_of, truth, is_zero, combine}
 use Rattle.task_machine.specs.Variables.{Slot, One, value_of, signed, slot_in, operand_in, primary_in}
-use Rattle.task_code.specs.declared.term.Term.{Term, Number, Variable, Negative, Inverted, Pair, Negative', Inverted', Pair'}
-use Rattle.task_code.specs.declared.names.Name.{Name}
-use Rattle.task_code.specs.Frames.{slot_for}
-use Rattle.task_code.specs.Names.{find_name}
-use Rattle.task_code.specs.Terms.{number_by, slot_by, IsSigned}
+use Rattle.task_frame.specs.declared.term.Term.{Term, Number, Variable, Negative, Inverted, Pair, Negative', Inverted', Pair'}
+use Rattle.task_frame.specs.declared.names.Name.{Name}
+use Rattle.task_frame.specs.Frames.{slot_for}
+use Rattle.task_frame.specs.Names.{find_name}
+use Rattle.task_frame.specs.Terms.{number_by, slot_by, IsSigned}
 use Rattle.task_code.specs.Flat.{Means, MeanAll}
-use Rattle.task_code.proofs.Evaluating.{negative_number, inverted_number, pair_number}
+use Rattle.task_frame.proofs.Evaluating.{negative_number, inverted_number, pair_number}
 
 negative_slot : (slots : List Slot) (t : Term) → slot_by slots (Negative t) ≡ One (Int (number_by slots (Negative t)))
-unfolding Rattle.task_code.specs.declared.term.Term.TheBlock.hidden-the_row-Term-0 denote.Hole.Carrier.hidden
+unfolding Rattle.task_frame.specs.declared.term.Term.TheBlock.hidden-the_row-Term-0 denote.Hole.Carrier.hidden
 negative_slot slots t = refl
 
 inverted_slot : (slots : List Slot) (t : Term) → slot_by slots (Inverted t) ≡ One (Int (number_by slots (Inverted t)))
-unfolding Rattle.task_code.specs.declared.term.Term.TheBlock.hidden-the_row-Term-0 denote.Hole.Carrier.hidden
+unfolding Rattle.task_frame.specs.declared.term.Term.TheBlock.hidden-the_row-Term-0 denote.Hole.Carrier.hidden
 inverted_slot slots t = refl
 
 pair_slot : (slots : List Slot) (a : Term) (op : Operator) (b : Term) → slot_by slots (Pair a op b) ≡ One (Int (number_by slots (Pair a op b)))
-unfolding Rattle.task_code.specs.declared.term.Term.TheBlock.hidden-the_row-Term-0 denote.Hole.Carrier.hidden
+unfolding Rattle.task_frame.specs.declared.term.Term.TheBlock.hidden-the_row-Term-0 denote.Hole.Carrier.hidden
 pair_slot slots a op b = refl
 
 -- the number of a term is that of its slot

@@ -12,20 +12,20 @@ use Rattle.task_machine.specs.Variables.{Slot, One, Many, Variables, slot_at, pu
 use Rattle.task_machine.specs.Texts.{CellArray, cell_arrays, cell_at, find_cell, stmts_of, else_of}
 use Rattle.task_machine.specs.State.{TaskState, ToSpawn, element_of, local_value, init_step, store_step, first_step, local_step, goes_on, set_by, read_of, write_of, get_of, spawn_of, create_of, end_of, wish_of_init, wish_by, wish_of}
 use Rattle.task_types.proofs.Slots.{by_bool, some_one, same_word, word_is, not_both, slot_put_same, slot_put_other}
-use Rattle.task_code.specs.declared.term.Term.{Term, Number}
-use Rattle.task_code.specs.declared.frame.Shape.TheVariants as shape
-use Rattle.task_code.specs.declared.names.Name.{Name}
+use Rattle.task_frame.specs.declared.term.Term.{Term, Number}
+use Rattle.task_frame.specs.declared.frame.Shape.TheVariants as shape
+use Rattle.task_frame.specs.declared.names.Name.{Name}
 use Rattle.task_code.specs.declared.code.TaskCode.{TaskCode}
-use Rattle.task_code.specs.declared.instruction.Fill.TheVariants as fill
-use Rattle.task_code.specs.declared.instruction.Target.{Target}
-use Rattle.task_code.specs.declared.instruction.Source.{Source}
-use Rattle.task_code.specs.declared.instruction.Source.TheVariants as source
-use Rattle.task_code.specs.declared.instruction.Instruction.{Instruction}
-use Rattle.task_code.specs.declared.instruction.Instruction.TheVariants.{Set, Store, Branch, Spawn, Sync, Return}
-use Rattle.task_code.specs.Arrays.{array_from, find_array, cell_in, cell_for}
-use Rattle.task_code.specs.Frames.{Held, slot_in_place, slot_for, zero_slot, shape_of, with_element}
-use Rattle.task_code.specs.Names.{find_from, find_name, rooms_by, Holds, HasRoom}
-use Rattle.task_code.specs.Terms.{number_by, value_by, values_by}
+use Rattle.task_frame.specs.declared.instruction.Fill.TheVariants as fill
+use Rattle.task_frame.specs.declared.instruction.Target.{Target}
+use Rattle.task_frame.specs.declared.instruction.Source.{Source}
+use Rattle.task_frame.specs.declared.instruction.Source.TheVariants as source
+use Rattle.task_frame.specs.declared.instruction.Instruction.{Instruction}
+use Rattle.task_frame.specs.declared.instruction.Instruction.TheVariants.{Set, Store, Branch, Spawn, Sync, Return}
+use Rattle.task_frame.specs.Arrays.{array_from, find_array, cell_in, cell_for}
+use Rattle.task_frame.specs.Frames.{Held, slot_in_place, slot_for, zero_slot, shape_of, with_element}
+use Rattle.task_frame.specs.Names.{find_from, find_name, rooms_by, Holds, HasRoom}
+use Rattle.task_frame.specs.Terms.{number_by, value_by, values_by}
 use Rattle.task_code.specs.Flat.{Place, MeansExpr, MeanAll, IsSource, DoesStmt, DoesBlock, DoesTail, fill_of}
 use Rattle.task_code.specs.Tasks.{aimed, local_source, set_slots, store_slots, moved_to, Moved, moves, wished_source, wished, Does, IsEnd, where_of}
 use Rattle.task_code.proofs.Meaning.{number_is}

@@ -22,12 +22,12 @@ use Rattle.task_types.proofs.Wishing.{effect_stays}
 use Rattle.task_types.proofs.Wishes.{typed_has_wish}
 use Rattle.task_types.proofs.Stepping.{steps_stay}
 use Rattle.task_code.specs.declared.code.TaskCode.{TaskCode}
-use Rattle.task_code.specs.declared.instruction.Instruction.{Instruction}
-use Rattle.task_code.specs.declared.instruction.Instruction.TheVariants.{Set, Store, Branch, Spawn, Sync, Return}
-use Rattle.task_code.specs.declared.instruction.Source.{Source}
-use Rattle.task_code.specs.declared.instruction.Source.TheVariants as source
+use Rattle.task_frame.specs.declared.instruction.Instruction.{Instruction}
+use Rattle.task_frame.specs.declared.instruction.Instruction.TheVariants.{Set, Store, Branch, Spawn, Sync, Return}
+use Rattle.task_frame.specs.declared.instruction.Source.{Source}
+use Rattle.task_frame.specs.declared.instruction.Source.TheVariants as source
 use Rattle.task_code.specs.declared.task.Spot.{Spot}
-use Rattle.task_code.specs.Names.{Holds, rooms_by}
+use Rattle.task_frame.specs.Names.{Holds, rooms_by}
 use Rattle.task_code.specs.declared.task.Wish.TheVariants as wish
 use Rattle.task_code.specs.declared.task.Wish as declared
 use Rattle.task_code.specs.Flat.{Compiled, AreGiven, AreCodesOf, IsCodeOf, code_of}

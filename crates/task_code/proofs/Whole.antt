@@ -10,12 +10,12 @@ use Rattle.fut_syntax.specs.Trees as tree
 use Rattle.fut_syntax.specs.Small.{items_of}
 use Rattle.fut_syntax.specs.Views.{item_tree, params_tree, block_tree, items_tree, program_tree}
 use Rattle.task_machine.specs.Texts.{CellArray, arrays_from, count_cells, tasks_from}
-use Rattle.task_code.specs.declared.names.Name.{Name}
+use Rattle.task_frame.specs.declared.names.Name.{Name}
 use Rattle.task_code.specs.declared.code.Given.{Given}
 use Rattle.task_code.specs.declared.code.TaskCode.{TaskCode}
-use Rattle.task_code.specs.Arrays.{HasCell}
+use Rattle.task_frame.specs.Arrays.{HasCell}
 use Rattle.task_code.specs.Flat.{AreGiven, AreCodesOf, IsCodeOfTask, Compiled, IsCodeOf}
-use Rattle.task_code.proofs.Laying.{below_or}
+use Rattle.task_frame.proofs.Laying.{below_or}
 
 nothing_left : {X : Type 0} (xs : List X) (i : ℕ) → length xs ≤ i → drop i xs ≡ []
 nothing_left [] zero h = refl

@@ -6,20 +6,20 @@ use Rattle.fut_syntax.specs.Small.{items_of}
 use Rattle.fut_check.specs.Items.{IsWellTyped}
 use Rattle.task_machine.specs.Variables.{Slot, Variables, slot_in, size_of}
 use Rattle.task_machine.specs.Texts.{CellArray, TaskText, arrays_from, cell_arrays, cell_count, tasks_of, main_of, find_task}
-use Rattle.task_code.specs.declared.term.Term.{Term, Number}
-use Rattle.task_code.specs.declared.names.Name.{Name}
-use Rattle.task_code.specs.declared.instruction.Fill.{Fill}
-use Rattle.task_code.specs.declared.instruction.Fill.TheVariants as fill
-use Rattle.task_code.specs.declared.instruction.Source.{Source}
-use Rattle.task_code.specs.declared.instruction.Source.TheVariants as source
-use Rattle.task_code.specs.declared.instruction.Instruction.{Instruction}
-use Rattle.task_code.specs.declared.instruction.Instruction.TheVariants.{Set, Store, Branch, Spawn, Sync, Return}
+use Rattle.task_frame.specs.declared.term.Term.{Term, Number}
+use Rattle.task_frame.specs.declared.names.Name.{Name}
+use Rattle.task_frame.specs.declared.instruction.Fill.{Fill}
+use Rattle.task_frame.specs.declared.instruction.Fill.TheVariants as fill
+use Rattle.task_frame.specs.declared.instruction.Source.{Source}
+use Rattle.task_frame.specs.declared.instruction.Source.TheVariants as source
+use Rattle.task_frame.specs.declared.instruction.Instruction.{Instruction}
+use Rattle.task_frame.specs.declared.instruction.Instruction.TheVariants.{Set, Store, Branch, Spawn, Sync, Return}
 use Rattle.task_code.specs.declared.scope.Scope.{Scope}
 use Rattle.task_code.specs.declared.code.Given.{Given}
 use Rattle.task_code.specs.declared.code.TaskCode.{TaskCode}
-use Rattle.task_code.specs.Arrays.{find_array}
-use Rattle.task_code.specs.Names.{Holds, HasRoom, find_name, rooms_by}
-use Rattle.task_code.specs.Terms.{slot_by}
+use Rattle.task_frame.specs.Arrays.{find_array}
+use Rattle.task_frame.specs.Names.{Holds, HasRoom, find_name, rooms_by}
+use Rattle.task_frame.specs.Terms.{slot_by}
 
 -- where the code of a task is made: the items of the program, and the names of the task
 pub record Place : Type 0 where

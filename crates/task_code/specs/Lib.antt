@@ -1,7 +1,3 @@
-pub mod Arrays
 pub mod Flat
-pub mod Frames
-pub mod Names
 pub mod Starting
 pub mod Tasks
-pub mod Terms

@@ -3,7 +3,7 @@ use Rattle.std.specs.Prelude.{ℕ, zero, suc, ◌+◌, List, [], ◌∷◌, take
 use Rattle.fut_base.specs.declared.record.Value.{Value}
 use Rattle.fut_syntax.specs.Trees as tree
 use Rattle.task_machine.specs.Variables.{Slot, One, Many, size_of}
-use Rattle.task_code.specs.Frames.{zero_value}
+use Rattle.task_frame.specs.Frames.{zero_value}
 
 -- a parameter of this type from the argument values that are left, as far as it has room
 abbrev pub taken_in : ℕ → tree.VarType → List Value → Slot

@@ -17,22 +17,22 @@ use Rattle.task_machine.specs.State as state
 use Rattle.task_machine.specs.State.{TaskState, element_of, read_of, write_of, get_of, end_of, wish_of}
 use Rattle.task_machine.specs.Runs.{Steps, StandsWithin, GoesOn, IsStateAfter}
 use Rattle.task_types.specs.Typed.{IsTypedState, any_future}
-use Rattle.task_code.specs.declared.term.Term.{Number}
+use Rattle.task_frame.specs.declared.term.Term.{Number}
 use Rattle.task_code.specs.declared.code.TaskCode.{TaskCode}
-use Rattle.task_code.specs.declared.instruction.Fill.{Fill}
-use Rattle.task_code.specs.declared.instruction.Fill.TheVariants as fill
-use Rattle.task_code.specs.declared.instruction.Target.{Target}
-use Rattle.task_code.specs.declared.instruction.Source.{Source}
-use Rattle.task_code.specs.declared.instruction.Source.TheVariants as source
-use Rattle.task_code.specs.declared.instruction.Instruction.{Instruction}
-use Rattle.task_code.specs.declared.instruction.Instruction.TheVariants.{Set, Store, Branch, Spawn, Sync, Return}
+use Rattle.task_frame.specs.declared.instruction.Fill.{Fill}
+use Rattle.task_frame.specs.declared.instruction.Fill.TheVariants as fill
+use Rattle.task_frame.specs.declared.instruction.Target.{Target}
+use Rattle.task_frame.specs.declared.instruction.Source.{Source}
+use Rattle.task_frame.specs.declared.instruction.Source.TheVariants as source
+use Rattle.task_frame.specs.declared.instruction.Instruction.{Instruction}
+use Rattle.task_frame.specs.declared.instruction.Instruction.TheVariants.{Set, Store, Branch, Spawn, Sync, Return}
 use Rattle.task_code.specs.declared.task.Spot.{Spot}
 use Rattle.task_code.specs.declared.task.Wish.TheVariants as wish
 use Rattle.task_code.specs.declared.task.Wish as declared
-use Rattle.task_code.specs.Arrays.{cell_for}
-use Rattle.task_code.specs.Frames.{Held, slot_in_place, slot_for}
-use Rattle.task_code.specs.Names.{Holds, rooms_by}
-use Rattle.task_code.specs.Terms.{number_by, value_by, values_by}
+use Rattle.task_frame.specs.Arrays.{cell_for}
+use Rattle.task_frame.specs.Frames.{Held, slot_in_place, slot_for}
+use Rattle.task_frame.specs.Names.{Holds, rooms_by}
+use Rattle.task_frame.specs.Terms.{number_by, value_by, values_by}
 use Rattle.task_code.specs.Flat.{Place, Compiled, code_of, IsCodeOf, DoesStmt}
 
 -- ---- what an instruction does

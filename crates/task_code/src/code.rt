@@ -6,15 +6,15 @@ ghost use Rattle.fut_syntax.specs.Trees as tree;
 ghost use Rattle.fut_syntax.specs.Views.{type_tree, params_tree, block_tree, items_tree, program_tree};
 ghost use Rattle.task_machine.specs.Texts.{CellArray as Cells, arrays_from, count_cells, tasks_from};
 ghost use Rattle.task_machine.specs.Variables.{size_of};
-ghost use Rattle.task_code.specs.Arrays.{IsCellOf};
+ghost use Rattle.task_frame.specs.Arrays.{IsCellOf};
 ghost use Rattle.task_code.specs.Flat.{AreGiven, AreCodesOf, IsCodeOf, IsCodeOfTask, instructions_at, code_of};
 
-use crate::cells::{CellArray, arrays_of, cells_of};
+use task_frame::cells::{CellArray, arrays_of, cells_of};
 use crate::compile::{add_block, fill_for, push, task_number};
-use crate::instruction::Instruction;
-use crate::names::{Name, find, names_of, narrow};
+use task_frame::instruction::Instruction;
+use task_frame::names::{Name, find, names_of, narrow};
 use crate::scope::Scope;
-use crate::term::Term;
+use task_frame::term::Term;
 use fut_base::list::NoMemory;
 use fut_check::Checked;
 use fut_syntax::tree::{Item, Param, Stmt, VarType};
@@ -50,7 +50,7 @@ pub struct Code {
 
 impl Model for Code {
     ghost use Rattle.task_code.specs.Flat.{Compiled};
-    ghost use Rattle.task_code.specs.contracts.term.Term as term;
+    ghost use Rattle.task_frame.specs.contracts.term.Term as term;
     ghost use Rattle.std.specs.Coded.{codes};
     ghost use Rattle.std.specs.Prelude.{◌<◌, ◌^◌, length};
 

@@ -3,13 +3,13 @@ ghost use Rattle.std.specs.Prelude.{◌≡◌, ◌≤◌, List, take, drop, leng
 ghost use Rattle.fut_syntax.specs.Trees.{Param as Parameter};
 ghost use Rattle.fut_syntax.specs.Views.{type_tree};
 ghost use Rattle.task_machine.specs.Variables.{bound};
-ghost use Rattle.task_code.specs.Frames.{zero_value};
-ghost use Rattle.task_code.specs.Names.{Holds, rooms_by};
+ghost use Rattle.task_frame.specs.Frames.{zero_value};
+ghost use Rattle.task_frame.specs.Names.{Holds, rooms_by};
 ghost use Rattle.task_code.specs.Flat.{AreGiven, code_of};
 ghost use Rattle.task_code.specs.Starting.{taken_in};
 
 use crate::code::{Code, Given, TaskCode};
-use crate::frame::Frame;
+use task_frame::frame::Frame;
 use fut_base::list::NoMemory;
 use fut_base::record::Value;
 use fut_syntax::tree::VarType;

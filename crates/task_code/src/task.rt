@@ -11,7 +11,7 @@ ghost use Rattle.task_code.specs.Flat.{IsCodeOf, code_of};
 ghost use Rattle.task_code.specs.Tasks.{IsTaskOf, IsSomeTask, IsStill, StopsAt, Wishes, Turned, Told, spot_after, slots_after, instruction_of, open_after, ended_after};
 
 use crate::code::Code;
-use crate::frame::Frame;
+use task_frame::frame::Frame;
 use crate::starting::frame_at;
 use crate::steps::{ending, passed, step, take, wish};
 use fut_base::list::NoMemory;

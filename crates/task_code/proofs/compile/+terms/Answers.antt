@@ -5,7 +5,7 @@ use Rattle.fut_syntax.specs.declared.tree.Primary.{Bracket}
 use Rattle.fut_syntax.specs.Views.{expr_tree, operand_tree, primary_tree, op_tree, sign_tree}
 use Rattle.fut_syntax.proofs.Made.{bracket_tree}
 use Rattle.task_machine.specs.Variables.{slot_in, primary_in}
-use Rattle.task_code.specs.declared.term.Term.{Term, Pair}
+use Rattle.task_frame.specs.declared.term.Term.{Term, Pair}
 use Rattle.task_code.specs.Flat.{Means}
 use Rattle.task_code.proofs.Meaning.{means_pair, each_signed}
 use Rattle.task_code.proofs.compile.+terms.Goals as goal

@@ -2,10 +2,10 @@ use Rattle.std.proofs.Common.{◌≡◌, List, ℕ, ap, sym, subst}
 use Rattle.std.specs.Prelude.{Some, pos}
 use Rattle.fut_syntax.specs.declared.tree.Stmt.{Stmt}
 use Rattle.fut_syntax.specs.Views.{stmt_tree}
-use Rattle.task_code.specs.declared.term.Term.{Number}
-use Rattle.task_code.specs.declared.instruction.Source.TheVariants as source
-use Rattle.task_code.specs.declared.instruction.Instruction.TheVariants.{Set}
-use Rattle.task_code.specs.Names.{find_name}
+use Rattle.task_frame.specs.declared.term.Term.{Number}
+use Rattle.task_frame.specs.declared.instruction.Source.TheVariants as source
+use Rattle.task_frame.specs.declared.instruction.Instruction.TheVariants.{Set}
+use Rattle.task_frame.specs.Names.{find_name}
 use Rattle.task_code.specs.Flat.{place_of, IsDone}
 use Rattle.task_code.proofs.compile.instruction_of.Goals as goal
 

@@ -2,8 +2,8 @@ use Rattle.std.proofs.Common.{sym, subst}
 use Rattle.fut_syntax.specs.Trees as tree
 use Rattle.fut_syntax.specs.declared.tree.Sign.{Sign}
 use Rattle.fut_syntax.specs.Views.{sign_tree}
-use Rattle.task_code.specs.declared.term.Term.{Term, Negative, Inverted}
-use Rattle.task_code.specs.Terms.{IsSigned}
+use Rattle.task_frame.specs.declared.term.Term.{Term, Negative, Inverted}
+use Rattle.task_frame.specs.Terms.{IsSigned}
 use Rattle.task_code.proofs.Meaning.{negative_is, inverted_is}
 use Rattle.task_code.proofs.compile.term_with_sign.Goals as goal
 

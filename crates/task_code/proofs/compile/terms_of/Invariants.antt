@@ -1,6 +1,6 @@
 use Rattle.std.proofs.Common.{List, ◌++◌, drop}
 use Rattle.fut_syntax.specs.Views.{args_tree}
-use Rattle.task_code.specs.declared.term.Term.{Term}
+use Rattle.task_frame.specs.declared.term.Term.{Term}
 use Rattle.task_code.specs.Flat.{MeanAll}
 use Rattle.task_code.proofs.compile.terms_of.Given as goal
 

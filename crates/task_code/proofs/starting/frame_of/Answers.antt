@@ -1,8 +1,8 @@
 use Rattle.std.proofs.Common.{◌∙◌, ◌-◌, List, length, replicate, arith, ap}
 use Rattle.std.proofs.lemmas.List.{get_or_default}
-use Rattle.task_code.specs.declared.names.Name.{Name}
-use Rattle.task_code.specs.Frames.{zero_slot}
-use Rattle.task_code.specs.Names.{rooms_by}
+use Rattle.task_frame.specs.declared.names.Name.{Name}
+use Rattle.task_frame.specs.Frames.{zero_slot}
+use Rattle.task_frame.specs.Names.{rooms_by}
 use Rattle.task_code.proofs.Beginning.{begun, one_given}
 use Rattle.task_code.proofs.starting.frame_of.Goals as goal
 

@@ -1,7 +1,7 @@
 use Rattle.std.proofs.Common.{◌≡◌, List, drop}
 use Rattle.fut_syntax.specs.Trees as tree
 use Rattle.task_machine.specs.Variables.{bound}
-use Rattle.task_code.specs.Names.{Holds, rooms_by}
+use Rattle.task_frame.specs.Names.{Holds, rooms_by}
 use Rattle.task_code.specs.Flat.{AreGiven}
 use Rattle.task_code.specs.Starting.{offset_of}
 use Rattle.task_code.proofs.starting.frame_of.Given as goal

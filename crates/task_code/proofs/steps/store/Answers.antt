@@ -1,7 +1,7 @@
 use Rattle.std.proofs.Common.{◌≡◌, ap, sym, ◌∙◌, subst, arith, rules, w64, to_z, of_z}
 use Rattle.std.specs.Prelude.{Some}
 use Rattle.task_machine.specs.Values.{index_of}
-use Rattle.task_code.specs.Frames.{shape_size, slot_for}
+use Rattle.task_frame.specs.Frames.{shape_size, slot_for}
 use Rattle.task_code.specs.Tasks.{store_slots}
 use Rattle.task_code.proofs.Simulating.{many_is_stored}
 use Rattle.task_code.proofs.steps.store.Goals as goal

@@ -1,5 +1,5 @@
 use Rattle.std.proofs.Common.{◌≡◌, take}
-use Rattle.task_code.specs.Terms.{values_by}
+use Rattle.task_frame.specs.Terms.{values_by}
 use Rattle.task_code.proofs.steps.values_of.Given as goal
 
 abbrev pub invariant-loop-term : goal.invariant-loop-term

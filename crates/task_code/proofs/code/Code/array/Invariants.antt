@@ -1,5 +1,5 @@
 use Rattle.std.proofs.Common.{drop}
-use Rattle.task_code.specs.Arrays.{HasCell}
+use Rattle.task_frame.specs.Arrays.{HasCell}
 use Rattle.task_code.proofs.code.Code.array.Given as goal
 
 abbrev pub invariant-loop-place : goal.invariant-loop-place

@@ -2,7 +2,7 @@ use Rattle.std.proofs.Common.{ℕ, List, ap, false, subst}
 use Rattle.fut_base.specs.declared.record.Value.{Value}
 use Rattle.task_machine.specs.Variables.{bound}
 use Rattle.task_code.specs.declared.task.Spot.{Spot}
-use Rattle.task_code.specs.Names.{Holds}
+use Rattle.task_frame.specs.Names.{Holds}
 use Rattle.task_code.specs.Flat.{code_of}
 use Rattle.task_code.specs.Tasks.{TaskNow}
 use Rattle.task_code.proofs.Tasking.{begins}

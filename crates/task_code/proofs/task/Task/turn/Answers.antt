@@ -1,7 +1,7 @@
 use Rattle.std.proofs.Common.{◌≡◌, ap, sym, ◌∙◌, subst}
 use Rattle.std.specs.Prelude.{Some}
 use Rattle.std.specs.Option.{option_copied}
-use Rattle.task_code.specs.Frames.{Held}
+use Rattle.task_frame.specs.Frames.{Held}
 use Rattle.task_code.specs.Tasks.{TaskNow, IsSomeTask, IsStill, instruction_of, moves, wished}
 use Rattle.task_machine.specs.State.{NoWish}
 use Rattle.task_code.proofs.Tasking.{never_stuck}

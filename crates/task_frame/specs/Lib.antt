@@ -1,0 +1,4 @@
+pub mod Arrays
+pub mod Frames
+pub mod Names
+pub mod Terms
