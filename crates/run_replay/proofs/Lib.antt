@@ -9,3 +9,4 @@ pub mod Answering
 pub mod Serially
 pub mod Sameness
 pub mod Only
+pub mod Finding
