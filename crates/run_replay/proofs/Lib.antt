@@ -10,3 +10,4 @@ pub mod Serially
 pub mod Sameness
 pub mod Only
 pub mod Finding
+pub mod Stepping
