@@ -53,21 +53,22 @@ fn the_last_insert_stands_first(rt: HostRuntime) -> Result<(), Fail> {
 
 #[test]
 fn labels_are_made_anew(rt: HostRuntime) -> Result<(), Fail> {
-    let gap = 73_201_365_371_863_300;
+    // Item k has the label 2^61 + 2^(61 - k) after 61 inserts. The window of 8 labels has the items 0, 61, 60 and 59, and
+    // at most 3 may share it; that of 16 has item 58 too, and at most 5 may share it.
     let mut list = after_inserts(rt.alloc(), 61)?;
     let window = Window {
         first: Item(0),
-        items: 62,
-        base: gap,
-        gap,
+        items: 5,
+        base: 1 << 61,
+        gap: 3,
     };
     assert_eq!(rt; list.window(Item(0)), window);
     assert_eq!(rt; list.insert_after(Item(0)), Item(62));
     assert_eq!(rt; list.next(Item(0)), Some(Item(62)));
-    assert_eq!(rt; list.label(Item(0)), gap);
-    assert_eq!(rt; list.label(Item(62)), 109_802_048_057_794_950);
-    assert_eq!(rt; list.label(Item(61)), 146_402_730_743_726_600);
-    assert_eq!(rt; list.label(Item(1)), 62 * gap);
+    let labels = [(0, 0), (62, 1), (61, 3), (60, 6), (59, 9), (58, 12), (57, 16), (56, 32), (1, 1 << 60)];
+    for (item, above) in labels {
+        assert_eq!(rt; list.label(Item(item)), (1 << 61) + above, "item {item}");
+    }
     Ok(())
 }
 
