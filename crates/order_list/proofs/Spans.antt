@@ -1,16 +1,14 @@
 -- Items that stand together.
-use Rattle.std.proofs.Common.{◌≡◌, ◌≢◌, ℕ, zero, suc, ◌+◌, ◌*◌, ◌-◌, ◌^◌, ◌<◌, ◌≤◌, ◌∙◌, ◌⊎◌, inl, inr, true, false, List, [], ◌∷◌, ◌++◌, length, length-append, append_assoc, get_or, sym, subst, ap, refl, arith}
-use Rattle.std.specs.Prelude.{Option, Some, None, ◌==◌, nat_lt, not, ◌&&◌, slice_index, slice_index_or}
-use Rattle.std.specs.List.{filter}
+use Rattle.std.proofs.Common.{◌≡◌, ℕ, ◌+◌, ◌^◌, ◌<◌, ◌≤◌, ◌∙◌, ◌⊎◌, inl, inr, true, false, List, [], ◌∷◌, ◌++◌, length, length-append, append_assoc, sym, subst, ap, refl, arith}
+use Rattle.std.specs.Prelude.{Option, Some, None, slice_index, slice_index_or}
 use Rattle.std.proofs.lemmas.Bool.Decides.{nat_tests}
-use Rattle.std.proofs.lemmas.List.{append-nil}
-use Rattle.order_list.specs.Ordered.{AllBelow, Rises, is_in, head_of}
-use Rattle.order_list.specs.Chain.{Linked, LinkedBack, Keeps}
-use Rattle.order_list.specs.Labels.{is_between, base_of, members}
-use Rattle.order_list.specs.Spans.{Leads, IsWay, AllBetween, last_of, next_between, IsStretch, put_before, Falls, IsSpan, IsWithinSpan}
+use Rattle.order_list.specs.Ordered.{AllBelow, Rises, head_of}
+use Rattle.order_list.specs.Chain.{Keeps}
+use Rattle.order_list.specs.Labels.{is_between}
+use Rattle.order_list.specs.Spans.{Leads, IsWay, AllBetween, last_of, next_between, IsStretch, put_before, Falls, IsSpan}
 use Rattle.order_list.specs.declared.span.Span.{Span}
 use Rattle.order_list.specs.declared.span.Stretch.{Stretch}
-use Rattle.order_list.proofs.Chains.{tested, eq_of}
+use Rattle.order_list.proofs.Chains.{tested}
 
 -- what a label in a range says
 pub between_is : (low high label : ℕ) → is_between low high label ≡ true → (low ≤ label) × (label < high)

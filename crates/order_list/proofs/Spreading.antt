@@ -1,20 +1,19 @@
 -- Labels that are spread evenly over a window.
-use Rattle.std.proofs.Common.{◌≡◌, ◌≢◌, ℕ, zero, suc, ◌+◌, ◌*◌, ◌-◌, ◌/◌, ◌^◌, ◌<◌, ◌≤◌, ◌∙◌, ◌⊎◌, inl, inr, true, false, List, [], ◌∷◌, ◌++◌, length, length-append, get_or, set, sym, subst, ap, refl, arith, get_or-set_same, get_or-set_other}
+use Rattle.std.proofs.Common.{◌≡◌, ◌≢◌, ℕ, ◌+◌, ◌*◌, ◌^◌, ◌<◌, ◌≤◌, ◌∙◌, ◌⊎◌, inl, inr, true, false, List, [], ◌∷◌, ◌++◌, length, set, sym, subst, ap, refl, arith, get_or-set_same, get_or-set_other}
 use Rattle.std.specs.Prelude.{Option, Some, None, Bool, ◌==◌, slice_index, slice_index_or}
 use Rattle.std.specs.List.{filter}
 use Rattle.std.proofs.Math.ListN.{length-set}
 use Rattle.std.proofs.Math.Nat.{mul-le-mul_right, mul-div-le, le-div_iff_mul-le}
 use Rattle.order_list.specs.Ordered.{AllBelow, Rises, is_in, head_of, next_of, high_by}
 use Rattle.order_list.specs.Chain.{Linked, Keeps}
-use Rattle.order_list.specs.Labels.{is_between, base_of, gap_of, members, IsSparse, IsLeastSparse, IsSpaced, IsSpread}
-use Rattle.order_list.specs.Spans.{Leads, put_before, Falls, IsSpan, IsFound, IsRoute, set_evenly}
-use Rattle.order_list.specs.declared.span.Span.{Span}
+use Rattle.order_list.specs.Labels.{is_between, base_of, gap_of, members, IsSparse, IsSpaced, IsSpread}
+use Rattle.order_list.specs.Spans.{Leads, put_before, Falls, IsFound, IsRoute, set_evenly}
 use Rattle.order_list.specs.declared.place.Window.{Window}
 use Rattle.order_list.proofs.Chains.{tested, eq_of, later_above, later_below}
 use Rattle.order_list.proofs.Inserting.{apart, in_rest, head_in, not_later}
 use Rattle.order_list.proofs.Powers.{gap_two, base_le, label_below}
-use Rattle.order_list.proofs.Spans.{is_in_range, Front, front, below_append, put_before_below, rises_from, rises_append, rises_join}
-use Rattle.order_list.proofs.Windows.{linked_from, leads_linked, members_are, members_count, fits}
+use Rattle.order_list.proofs.Spans.{is_in_range, below_append, put_before_below, rises_append, rises_join}
+use Rattle.order_list.proofs.Windows.{linked_from, leads_linked, members_are, fits}
 
 -- the labels as far as they were set
 pub record IsSpreading (old : List ℕ) (nexts : List (Option ℕ)) (w : Window) (items rest : List ℕ) (labels : List ℕ) (k label : ℕ) (at : Option ℕ) : Type 0 where

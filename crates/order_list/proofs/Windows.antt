@@ -1,14 +1,14 @@
 -- The least sparse window.
-use Rattle.std.proofs.Common.{◌≡◌, ◌≢◌, ℕ, zero, suc, ◌+◌, ◌*◌, ◌-◌, ◌/◌, ◌^◌, ◌<◌, ◌≤◌, ◌∙◌, ◌⊎◌, inl, inr, true, false, List, [], ◌∷◌, ◌++◌, length, length-append, get_or, sym, subst, ap, refl, arith}
-use Rattle.std.specs.Prelude.{Option, Some, None, ◌==◌, Bool, nat_le, slice_index, slice_index_or, unwrap_or}
+use Rattle.std.proofs.Common.{◌≡◌, ◌≢◌, ℕ, ◌+◌, ◌*◌, ◌^◌, ◌<◌, ◌≤◌, ◌∙◌, inl, inr, true, false, List, [], ◌∷◌, ◌++◌, length, sym, subst, ap, refl, arith}
+use Rattle.std.specs.Prelude.{Option, None, ◌==◌, Bool, nat_le, slice_index, slice_index_or, unwrap_or}
 use Rattle.std.specs.List.{filter}
 use Rattle.std.proofs.lemmas.List.Elements.{filter-append}
 use Rattle.std.proofs.lemmas.List.Sums.{length-filter, count_by-le-length}
 use Rattle.std.proofs.lemmas.List.{append-nil}
 use Rattle.std.proofs.lemmas.Bool.Decides.{nat_tests}
-use Rattle.order_list.specs.Ordered.{AllBelow, Rises, is_in, head_of}
+use Rattle.order_list.specs.Ordered.{Rises, is_in, head_of}
 use Rattle.order_list.specs.Chain.{Linked, LinkedBack, Keeps}
-use Rattle.order_list.specs.Labels.{is_between, base_of, members, gap_of, IsSparse, IsLeastSparse, IsWindowOf, window_at}
+use Rattle.order_list.specs.Labels.{is_between, base_of, members, gap_of, IsSparse, IsLeastSparse, IsWindowOf}
 use Rattle.order_list.specs.Spans.{Leads, put_before, Falls, IsSpan, IsWithinSpan, IsFound}
 use Rattle.order_list.specs.declared.span.Span.{Span}
 use Rattle.order_list.specs.declared.place.Window.{Window}

@@ -23,8 +23,9 @@ const END: u64 = 1 << 62;
 /// Where the labels of x and the next item leave no room between them, labels are made anew in a window of labels at x.
 /// For i from 1 to 62 the window of size 2^i begins at the greatest multiple of 2^i that is not above the label of x; it
 /// is sparse where at most 1.5^i items have labels in it. The least sparse window is taken: its items are spread evenly
-/// over it, and no other label changes. So an insert makes a logarithmic number of labels anew, on average (Bender,
-/// Cole, Demaine, Farach-Colton and Zito 2002).
+/// over it, and no other label changes. The rule is that of Bender, Cole, Demaine, Farach-Colton and Zito 2002, by which
+/// many inserts make a logarithmic number of labels anew each, on average; which labels result is proved, that bound is
+/// not.
 #[derive(Drop)]
 pub struct OrderList {
     labels: Vec<u64>,
@@ -129,7 +130,12 @@ impl OrderList {
         requires { x.0 < length self.now.order }
         ensures { IsWindowOf self.now.labels self.now.order x.0 result }
     {
-        window(self.labels.as_slice(), self.nexts.as_slice(), self.prevs.as_slice(), x.0)
+        window(
+            self.labels.as_slice(),
+            self.nexts.as_slice(),
+            self.prevs.as_slice(),
+            x.0,
+        )
     }
 
     /// Puts a new item right after x. Where there is no label between, those of the least sparse window are made
@@ -190,7 +196,12 @@ impl OrderList {
         // What every list keeps.
         ensures was_kept { IsKept self.old }
     {
-        relabel(self.labels.as_mut_slice(), self.nexts.as_slice(), self.prevs.as_slice(), x.0);
+        relabel(
+            self.labels.as_mut_slice(),
+            self.nexts.as_slice(),
+            self.prevs.as_slice(),
+            x.0,
+        );
     }
 
     // Puts an item right after x, with a label that is free there.

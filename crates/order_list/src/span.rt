@@ -40,7 +40,14 @@ fn between(labels: &[u64], at: Option<u32>, low: u64, high: u64) -> Option<u32>
 
 // Goes along the links from `at` on, as long as labels are from `low` on and below `high`. The last item met is `from`
 // where there is none.
-fn go_along(labels: &[u64], links: &[Option<u32>], from: u32, at: Option<u32>, low: u64, high: u64) -> Stretch
+fn go_along(
+    labels: &[u64],
+    links: &[Option<u32>],
+    from: u32,
+    at: Option<u32>,
+    low: u64,
+    high: u64,
+) -> Stretch
     requires way { (xs : List ℕ) × IsWay labels.now links.now at xs }
     ensures { (xs : List ℕ) → Leads links.now at xs → IsStretch labels.now links.now low high from xs result }
 {
@@ -69,7 +76,14 @@ fn go_along(labels: &[u64], links: &[Option<u32>], from: u32, at: Option<u32>, l
 }
 
 // A span of labels in some range, widened to those from `base` on and below `end`.
-pub fn widened(labels: &[u64], nexts: &[Option<u32>], prevs: &[Option<u32>], span: Span, base: u64, end: u64) -> Span
+pub fn widened(
+    labels: &[u64],
+    nexts: &[Option<u32>],
+    prevs: &[Option<u32>],
+    span: Span,
+    base: u64,
+    end: u64,
+) -> Span
     requires kept { Keeps labels.now nexts.now prevs.now (walk nexts.now (length nexts.now) (Some 0)) }
     requires few { length nexts.now < 2 ^ 32 }
     requires span { IsWithinSpan labels.now nexts.now prevs.now (walk nexts.now (length nexts.now) (Some 0)) base end span }

@@ -11,10 +11,8 @@ use crate::window::window;
 // Gives the items of a window the labels base, base + gap and so on, in the order of the chain.
 fn spread(labels: &mut [u64], nexts: &[Option<u32>], window: Window)
     requires route { (items : List ℕ) × (rest : List ℕ) × IsRoute labels.old nexts.now window items rest }
-    ensures {
-        (items rest : List ℕ) → IsRoute labels.old nexts.now window items rest
-        → labels.new ≡ set_evenly labels.old window.base window.gap items
-    }
+    ensures { (items rest : List ℕ) → IsRoute labels.old nexts.now window items rest
+        → labels.new ≡ set_evenly labels.old window.base window.gap items }
 {
     let mut at = Some(window.first.0);
     let mut label = window.base;
@@ -34,10 +32,8 @@ pub fn relabel(labels: &mut [u64], nexts: &[Option<u32>], prevs: &[Option<u32>],
     requires x_in { x < length nexts.now }
     ensures kept { Keeps labels.new nexts.now prevs.now (walk nexts.now (length nexts.now) (Some 0)) }
     ensures spread { IsSpread labels.old (walk nexts.now (length nexts.now) (Some 0)) x labels.new }
-    ensures between {
-        slice_index labels.new x + 2
-            ≤ high_by labels.new (next_of x (walk nexts.now (length nexts.now) (Some 0)))
-    }
+    ensures between { slice_index labels.new x + 2
+        ≤ high_by labels.new (next_of x (walk nexts.now (length nexts.now) (Some 0))) }
 {
     let window = window(labels, nexts, prevs, x);
     spread(labels, nexts, window);

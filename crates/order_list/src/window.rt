@@ -16,7 +16,7 @@ fn is_sparse(items: u32, i: u32) -> bool
     u128::from(items) * 2u128.pow(i) <= 3u128.pow(i)
 }
 
-// The least sparse window at x. It is found in time in proportion to its items.
+// The least sparse window at x. The span of each window is that of the one before, widened, so that no item is met twice.
 pub fn window(labels: &[u64], nexts: &[Option<u32>], prevs: &[Option<u32>], x: u32) -> Window
     requires kept { Keeps labels.now nexts.now prevs.now (walk nexts.now (length nexts.now) (Some 0)) }
     requires few { length nexts.now < 2 ^ 32 }

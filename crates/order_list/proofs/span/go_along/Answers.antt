@@ -1,5 +1,5 @@
-use Rattle.std.proofs.Common.{◌≡◌, ℕ, ◌<◌, ◌≤◌, ◌∙◌, List, length, sym, subst, ap, arith}
-use Rattle.order_list.specs.Spans.{IsStretch, Leads, IsWay}
+use Rattle.std.proofs.Common.{◌≡◌, ℕ, ◌<◌, ◌∙◌, length, sym, subst, ap, arith}
+use Rattle.order_list.specs.Spans.{IsStretch}
 use Rattle.order_list.proofs.Spans.{gone_none, met, met_below, gone_more, gone_out, gone_all, leads_one}
 use Rattle.order_list.proofs.span.go_along.Goals as goal
 

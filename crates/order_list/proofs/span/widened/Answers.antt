@@ -1,6 +1,4 @@
-use Rattle.std.proofs.Common.{◌≡◌, ℕ, ◌+◌, ◌<◌, ◌≤◌, List, length, ap, arith, Some, length-append}
-use Rattle.order_list.specs.Chain.{walk}
-use Rattle.order_list.specs.Spans.{IsSpan}
+use Rattle.std.proofs.Common.{ℕ, length, ap, arith, length-append}
 use Rattle.order_list.proofs.Spans.{wider, way_back, way_on, span_length}
 use Rattle.order_list.proofs.span.widened.Goals as goal
 

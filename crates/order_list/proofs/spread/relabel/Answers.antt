@@ -1,4 +1,4 @@
-use Rattle.std.proofs.Common.{◌≡◌, ◌+◌, ℕ, ◌≤◌, List, length, Some, sym, subst}
+use Rattle.std.proofs.Common.{◌≡◌, ◌+◌, ◌≤◌, length, Some, sym, subst}
 use Rattle.std.specs.Prelude.{slice_index}
 use Rattle.order_list.specs.Chain.{walk, Keeps}
 use Rattle.order_list.specs.Ordered.{high_by, next_of}

@@ -1,4 +1,4 @@
-use Rattle.std.proofs.Common.{◌≡◌, ℕ, ◌<◌, length, Some, sym, subst, arith, Option}
+use Rattle.std.proofs.Common.{ℕ, subst, arith, Option}
 use Rattle.order_list.proofs.Spreading.{IsSpreading, turn, no_end, spread_none, spread_all}
 use Rattle.order_list.proofs.spread.spread.Goals as goal
 use Rattle.order_list.proofs.spread.spread.Goals.{in-Some, in_default}

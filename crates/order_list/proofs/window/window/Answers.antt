@@ -1,4 +1,4 @@
-use Rattle.std.proofs.Common.{◌≡◌, ℕ, ◌+◌, ◌-◌, ◌%◌, ◌/◌, ◌^◌, ◌<◌, ◌≤◌, length, Some, sym, ap, subst, arith, ◌∙◌}
+use Rattle.std.proofs.Common.{◌≡◌, ℕ, ◌+◌, ◌-◌, ◌%◌, ◌/◌, ◌^◌, ◌≤◌, length, Some, sym, ap, subst, arith, ◌∙◌}
 use Rattle.std.specs.Prelude.{slice_index}
 use Rattle.order_list.specs.Chain.{walk}
 use Rattle.order_list.specs.declared.place.Window.{Window}

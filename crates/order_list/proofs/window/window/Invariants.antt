@@ -1,4 +1,4 @@
-use Rattle.std.proofs.Common.{◌≡◌, length, Some}
+use Rattle.std.proofs.Common.{length, Some}
 use Rattle.order_list.specs.Chain.{walk}
 use Rattle.order_list.proofs.Windows.{HasSought}
 use Rattle.order_list.proofs.window.window.Given as goal

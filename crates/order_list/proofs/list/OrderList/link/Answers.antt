@@ -2,7 +2,7 @@ use Rattle.std.proofs.Common.{◌≡◌, ℕ, ◌<◌, ◌≤◌, [], ◌∷◌,
 use Rattle.std.specs.Prelude.{slice_index, slice_set, IfSome}
 use Rattle.order_list.specs.Ordered.{Ordered, high_of, put_after}
 use Rattle.order_list.specs.Chain.{walk}
-use Rattle.order_list.proofs.Inserting.{linked_in, IsLinked, kept, next_read, Next}
+use Rattle.order_list.proofs.Inserting.{linked_in, IsLinked, kept, next_read}
 use Rattle.order_list.proofs.list.OrderList.link.Goals as goal
 
 pub lead_back-requires : goal.lead_back-requires
