@@ -139,3 +139,11 @@ new_kept s readers empty = (
 
 pub new_log : (s : List Event) (readers : Vec Access Global) (room : ℕ) (rise : Bool) → readers.items ≡ [] → IsLogOf s [] (record { kept = Clean None readers; room = room; rise = rise })
 new_log s readers room rise empty = record { kept = new_kept s readers empty; rising = λ _ a b h. absurd (subst (Among a) empty h) }
+
+-- a log whose room alone is another
+pub log_same : (s : List Event) (past : List (Touch Kind)) (old new : Logged) → new.kept ≡ old.kept → new.rise ≡ old.rise → IsLogOf s past old → IsLogOf s past new
+log_same s past old new kept rise k =
+    record {
+      kept = subst (IsKept s past) (sym kept) k.kept;
+      rising = λ y. subst (λ (z : Kept). RiseInEnglish s (reads_of z)) (sym kept) (k.rising (sym rise ∙ y));
+    }
