@@ -1,8 +1,8 @@
 -- What a log keeps after one more access.
-use Rattle.std.proofs.Common.{◌≡◌, ℕ, ◌<◌, List, [], ◌∷◌, ◌++◌, ◌⊎◌, inl, inr, subst, ap, sym, refl, ◌∙◌, option_to_list, arith, Vec, Global, Bool, true}
+use Rattle.std.proofs.Common.{◌≡◌, ℕ, ◌<◌, List, [], ◌∷◌, ◌++◌, ◌⊎◌, inl, inr, subst, ap, sym, refl, ◌∙◌, option_to_list, arith, Vec, Global, Bool}
 use Rattle.std.specs.Prelude.{Option, Some, None}
 use Rattle.fut_base.specs.declared.event.Event.{Event}
-use Rattle.fut_base.specs.Dag.{Among, ReachesBy, edges_of}
+use Rattle.fut_base.specs.Dag.{Among, edges_of}
 use Rattle.strand_tree.specs.Placing.{IsStrandOf}
 use Rattle.strand_tree.specs.declared.strand.Strand.{Strand}
 use Rattle.access_shards.specs.declared.kept.Access.{Access}
@@ -14,13 +14,9 @@ use Rattle.access_shards.specs.Logged.{Logged, IsLogOf, RiseInEnglish, KeepsOneM
 use Rattle.access_shards.specs.Reading.{AreReads, KeepsRead}
 use Rattle.access_shards.specs.Finding.{AreOf, FindsLast, AllOnKnown}
 use Rattle.access_shards.proofs.Next.{pair_stays}
-use Rattle.access_shards.proofs.Rising.{readers_apart}
+use Rattle.access_shards.proofs.Rising.{readers_apart, in_order_left}
 use Rattle.strand_laws.proofs.Places.{among_or, among_left, among_right}
 use Rattle.access_shards.proofs.Keeping.{kept_in_order, strands_of, found_by_read, found_by_write, none_by_read, none_by_write, kept_by_read, kept_by_write, writer_stays}
-
-order_left : (xs ys : List Access) → IsInOrder (xs ++ ys) → IsInOrder xs
-order_left [] ys h = tt
-order_left (x ∷ xs) ys h = ((λ b k. h.0 b (among_left b xs ys k)), order_left xs ys h.1)
 
 order_right : (xs ys : List Access) → IsInOrder (xs ++ ys) → IsInOrder ys
 order_right [] ys h = h
@@ -59,7 +55,7 @@ module _ (table : List Strand) (at : Strand) (place : ℕ) (known : ℕ) (englis
     read_finds first rise finds s past view may was =
         let k = subst (IsKept s past) is was.kept in
         let of : AreOf s (option_to_list writer) = record {
-          order = order_left (option_to_list writer) readers.items (kept_in_order s past at place reading may k.0 writer readers.items k.1 k.2);
+          order = in_order_left (option_to_list writer) readers.items (kept_in_order s past at place reading may k.0 writer readers.items k.1 k.2);
           strands = λ a h. strands_of s past at place reading may k.0 writer readers.items k.1 k.2 a (among_left a (option_to_list writer) readers.items h);
         } in
         record { kept = found_by_read s past at place reading may k.0 writer readers.items k.1 k.2 refl first (finds s view of); rising = λ _ a b h. absurd h }
@@ -98,7 +94,7 @@ module _ (table : List Strand) (at : Strand) (place : ℕ) (known : ℕ) (englis
         let order = kept_in_order s past at place reading may k.0 writer readers.items k.1 k.2 in
         let strands = strands_of s past at place reading may k.0 writer readers.items k.1 k.2 in
         let first : AreOf s (option_to_list writer) = record {
-          order = order_left (option_to_list writer) readers.items order;
+          order = in_order_left (option_to_list writer) readers.items order;
           strands = λ a h. strands a (among_left a (option_to_list writer) readers.items h);
         } in
         let reads : AreReads s readers.items old.rise = record {

@@ -6,7 +6,7 @@ use Rattle.std.specs.Prelude.{◌↔◌, ◌≤◌}
 use Rattle.std.proofs.Math.Seq.{get_or-append_seam, drop-cons}
 use Rattle.fut_base.specs.declared.event.Event.{Event}
 use Rattle.fut_base.specs.Dag.{Among, ReachesBy, edges_of}
-use Rattle.fut_base.specs.Orders.{stands_before, english_of, hebrew_of, english_past, hebrew_past, precedes_past}
+use Rattle.fut_base.specs.Orders.{stands_before, english_of, english_past, hebrew_past}
 use Rattle.fut_base.specs.Sound.{IsSound, home_of}
 use Rattle.strand_laws.proofs.Places.{place, same_or_not, before_place, place_before, among_or, among_left, among_right}
 use Rattle.strand_laws.proofs.Sources.{whole_en, whole_he}
@@ -22,7 +22,7 @@ use Rattle.access_shards.specs.Logged.{StandsFirst, RiseInEnglish}
 use Rattle.reach_table.specs.Telling.{TellsReach}
 use Rattle.access_shards.specs.Reading.{IsNotAfter, EndsBefore, IsDropped, DropsEnd, AreApart, AreReads, KeepsAll, KeepsRead}
 use Rattle.access_shards.proofs.Looking.{at_place}
-use Rattle.access_shards.proofs.Keeping.{in_order_last, in_order_more}
+use Rattle.access_shards.proofs.Keeping.{in_order_last}
 
 both_true : (a b : Bool) → a ≡ true → b ≡ true → (a && b) ≡ true
 both_true true b h k = k
@@ -122,13 +122,17 @@ last_at xs before last d is =
 last_among : (all before : List Access) (last : Access) → all ≡ before ++ last ∷ [] → Among last all
 last_among all before last is = subst (Among last) (sym is) (among_right last before (last ∷ []) (inl refl))
 
-in_order_left : (xs ys : List Access) → IsInOrder (xs ++ ys) → IsInOrder xs
+pub in_order_left : (xs ys : List Access) → IsInOrder (xs ++ ys) → IsInOrder xs
 in_order_left [] ys h = tt
 in_order_left (x ∷ xs) ys h = ((λ b k. h.0 b (among_left b xs ys k)), in_order_left xs ys h.1)
 
--- what the sides of the last access tell
-pub ends_of : (english : List ℕ) (at : Strand) (xs : List Access) (d : Access) → IsNotAfter english (get_or xs (length xs - 1) d).strand at → EndsBefore english at xs
-ends_of english at xs d k before last is = subst (λ (a : Access). IsNotAfter english a.strand at) (last_at xs before last d is) k
+-- what the English side of the last access tells
+pub ends_of : (english : List ℕ) (at : Strand) (xs : List Access) (d : Access) (a b : ℕ) (side : Bool) → a ≡ (get_or xs (length xs - 1) d).strand.number → b ≡ at.number → side ≡ stands_before a b english → side ≡ true
+    → (get_or xs (length xs - 1) d).strand.future ≡ at.future → EndsBefore english at xs
+ends_of english at xs d a b side ea eb side_is on future_is before last is = subst (λ (x : Access). IsNotAfter english x.strand at) (last_at xs before last d is) (record {
+  future_is = future_is;
+  first = inr (subst (λ n. stands_before (get_or xs (length xs - 1) d).strand.number n english ≡ true) eb (subst (λ n. stands_before n b english ≡ true) ea (sym side_is ∙ on)));
+})
 
 module _ (table : List Strand) (at : Strand) (known : ℕ) (english hebrew : List ℕ) where
   -- a strand is reached from each access but the first n

@@ -77,8 +77,9 @@ impl CellLog {
     }
 
     /// Keeps a read at a place above all earlier ones, on strand `at`, whose table `reach` is. It tries at most once for
-    /// each kept access whether a path leads from it, and takes no memory. Where reads come in the English order of one
-    /// future that is amortised constant time. After `Moved` nothing is changed, and the room still stands.
+    /// each kept access whether a path leads from it, asks once more for the last, and takes no memory. Where reads come in
+    /// the English order of one future that is amortised constant time. After `Moved` nothing is changed, and the room still
+    /// stands.
     pub fn read<J: Judge>(
         &mut self,
         judge: &mut J,

@@ -1,6 +1,6 @@
 -- The report of the logs of all cells.
 use Rattle.std.proofs.Common.{◌≡◌, ℕ, true, suc, ◌+◌, ◌<◌, ◌≤◌, List, [], ◌∷◌, ◌++◌, length, get_or, inl, inr, subst, ap, sym, refl, ◌∙◌, arith, slice_get, length-append, Vec, Global}
-use Rattle.std.specs.Prelude.{Option, Some, None, All, Any}
+use Rattle.std.specs.Prelude.{Option, Some, All, Any}
 use Rattle.std.proofs.Math.ListN.{get_or-append}
 use Rattle.std.proofs.lemmas.Bool.{cases_lt, cases_eq}
 use Rattle.std.proofs.lemmas.Option.{slice_get-get_or}

@@ -2,7 +2,7 @@ use Rattle.std.proofs.Common.{◌∙◌, ap, sym, subst}
 use Rattle.std.specs.Prelude.{Some, None}
 use Rattle.access_shards.specs.Kept.{all_kept}
 use Rattle.access_shards.specs.Finding.{AllOnKnown, FindsLast}
-use Rattle.access_shards.proofs.Logging.{known_all, found_stays, write_finds, write_keeps}
+use Rattle.access_shards.proofs.Logging.{known_all, write_finds, write_keeps}
 use Rattle.access_shards.proofs.log.CellLog.write.Goals as goal
 
 pub last_unreached-requires-clause-kept_known : goal.last_unreached-requires-clause-kept_known
