@@ -4,6 +4,13 @@
 //! The layers above use `write_run` and `read_run`, and the pieces, of which other texts are written too.
 #![tactic(auto)]
 
+mod acts;
+mod cursor;
+mod digits;
 pub mod pieces;
+pub mod reader;
 pub mod record;
 pub mod run_text;
+#[cfg(test)]
+mod tests;
+mod values;
