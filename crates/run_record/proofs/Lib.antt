@@ -5,3 +5,8 @@ pub mod Cursors
 pub mod Exits
 pub mod Rows
 pub mod Joined
+pub mod Phrases
+pub mod Viable
+pub mod Through
+pub mod Exact
+pub mod Ends
