@@ -10,3 +10,6 @@ pub mod Viable
 pub mod Through
 pub mod Exact
 pub mod Ends
+pub mod Back
+pub mod Onces
+pub mod Decided

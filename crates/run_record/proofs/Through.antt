@@ -50,23 +50,23 @@ count_goes : (k : Kind) (n : ℕ) (r : List ℕ) → n ≤ bound k → is_count 
 count_goes k n r small h =
     onward (record { goes = λ s. number_runs k s n small (10 ∷ r) }) (takes (Digits k n) 10 (counted k n) (10 ∷ r) r (ends_rule k n 10 (10 ∷ r) r refl (no_more k n 10 (omega arith)) ∙ line_rule k n h) refl)
 
-record Headed (ds : List ℕ) : Type 0 where
-  head : ℕ
-  tail : List ℕ
-  is : ds ≡ head ∷ tail
-  low : 48 ≤ head
-  high : head ≤ 57
+pub record Headed (ds : List ℕ) : Type 0 where
+  pub head : ℕ
+  pub tail : List ℕ
+  pub is : ds ≡ head ∷ tail
+  pub low : 48 ≤ head
+  pub high : head ≤ 57
 
-headed : (n : ℕ) → n < 2 ^ 64 → Headed (decimal n)
+pub headed : (n : ℕ) → n < 2 ^ 64 → Headed (decimal n)
 headed n small = decimal_by_steps (λ m ds. Headed ds)
     (λ m l. record { head = 48 + m; tail = []; is = refl; low = omega arith; high = omega arith })
     (λ m ds l h. record { head = h.head; tail = h.tail ++ (48 + m % 10) ∷ []; is = ap (λ q. q ++ (48 + m % 10) ∷ []) h.is; low = h.low; high = h.high })
     n small
 
-not_byte : (x b : ℕ) → (x ≡ b → ⊥) → nat_eq x b ≡ false
+pub not_byte : (x b : ℕ) → (x ≡ b → ⊥) → nat_eq x b ≡ false
 not_byte x b h = grind (arith, nat_tests)
 
-digit_is : (x : ℕ) → 48 ≤ x → x ≤ 57 → is_digit x ≡ true
+pub digit_is : (x : ℕ) → 48 ≤ x → x ≤ 57 → is_digit x ≡ true
 digit_is x low high = grind (arith, nat_tests)
 
 positive_is : (x : ℕ) → 49 ≤ x → x ≤ 57 → (nat_le 49 x && nat_le x 57) ≡ true
@@ -93,7 +93,7 @@ signed_goes (negsuc n) c r small low =
     (onward (opens Unsigned (Number kind.Negative) h.head (decimal (suc n) ++ (c ∷ r)) (h.tail ++ (c ∷ r)) same (ap (λ q. q ++ (c ∷ r)) h.is))
      (number_goes kind.Negative (suc n) c r (omega arith) low refl))
 
-signed_headed : (z : ℤ) → IsSigned z → (x : ℕ) × (ds : List ℕ) × (signed_decimal z ≡ x ∷ ds) × (x < 58)
+pub signed_headed : (z : ℤ) → IsSigned z → (x : ℕ) × (ds : List ℕ) × (signed_decimal z ≡ x ∷ ds) × (x < 58)
 signed_headed (pos n) small = let h = headed n (omega arith) in let high = h.high in (h.head, h.tail, h.is, omega (arith, high))
 signed_headed (negsuc n) small = (45, decimal (suc n), refl, omega arith)
 
@@ -108,13 +108,13 @@ value_goes (Fut f) c r small low =
     onward (takes Datum 102 (Number kind.Plain ∷ []) (102 ∷ (decimal f ++ (c ∷ r))) (decimal f ++ (c ∷ r)) refl refl) (plain_goes f c r small low)
 
 -- the values of a line go through before its rest, whose first byte is no digit
-record Lined (vs : List Value) (r : List ℕ) : Type 0 where
-  first : ℕ
-  others : List ℕ
-  is : values_line vs ++ r ≡ first ∷ others
-  low : first < 48
+pub record Lined (vs : List Value) (r : List ℕ) : Type 0 where
+  pub first : ℕ
+  pub others : List ℕ
+  pub is : values_line vs ++ r ≡ first ∷ others
+  pub low : first < 48
 
-lined : (vs : List Value) (r : List ℕ) → Lined vs r
+pub lined : (vs : List Value) (r : List ℕ) → Lined vs r
 lined [] r = record { first = 10; others = r; is = refl; low = omega arith }
 lined (v ∷ vs) r = record { first = 32; others = (value_text v ++ values_line vs) ++ r; is = refl; low = omega arith }
 

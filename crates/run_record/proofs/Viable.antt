@@ -316,7 +316,7 @@ walk_some xs None s' e = absurd (cc)
 walk_some xs (Some m) s' e = (m, refl, e)
 
 -- what is due after some bytes completes them
-walk_back : (xs : List ℕ) (s s' : List Symbol) → walk s xs ≡ Some s' → (ys r : List ℕ) → Phrases s' ys r → Phrases s (xs ++ ys) r
+pub walk_back : (xs : List ℕ) (s s' : List Symbol) → walk s xs ≡ Some s' → (ys r : List ℕ) → Phrases s' ys r → Phrases s (xs ++ ys) r
 walk_back [] s s' e ys r h = let same : s ≡ s' = cc in subst (λ (q : List Symbol). Phrases q ys r) (sym same) h
 walk_back (x ∷ xs) s s' e ys r h =
     let m = walk_some xs (next s x) s' e in
