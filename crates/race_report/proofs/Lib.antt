@@ -1,3 +1,4 @@
+pub mod Naming
 pub mod Accesses
 pub mod Firsts
 pub mod Lasts

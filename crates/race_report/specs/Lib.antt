@@ -1,3 +1,4 @@
+pub mod Brief
 pub mod Edges
 pub mod Laws
 pub mod Pairs

@@ -1,0 +1,10 @@
+use Rattle.std.proofs.Common.{◌≡◌, ◌+◌, ◌≤◌, map, drop}
+use Rattle.fut_base.specs.Events.{event_of}
+use Rattle.race_report.specs.Brief.{task_count}
+use Rattle.race_report.proofs.brief.tasks.Given as goal
+
+abbrev pub invariant-loop-entry : goal.invariant-loop-entry
+invariant-loop-entry l = record {
+  so_far : l.count + task_count (map event_of (drop l.entry-index l.entries)) ≡ 1 + task_count (map event_of l.entries);
+  few : l.count ≤ l.entry-index + 1;
+}
