@@ -32,8 +32,8 @@ scan_number : (n : ℕ) → n < 2 ^ 64 → (r : List ℕ) → scan 0 (decimal n 
 scan_number n small = decimal_by_steps (λ m ds. (r : List ℕ) → scan 0 (ds ++ r) ≡ scan m r)
     (λ m l r. let same : 0 * 10 + m ≡ m = omega arith in scan_digit 0 m r (omega arith) ∙ ap (λ k. scan k r) same)
     (λ m ds l h r.
-        let same : m / 10 * 10 + m % 10 ≡ m = omega arith in
-        ap (λ q. scan 0 q) (append_assoc ds ((48 + m % 10) ∷ []) r) ∙ h ((48 + m % 10) ∷ r) ∙ scan_digit (m / 10) (m % 10) r (omega arith) ∙ ap (λ k. scan k r) same)
+    let same : m / 10 * 10 + m % 10 ≡ m = omega arith in
+    ap (λ q. scan 0 q) (append_assoc ds ((48 + m % 10) ∷ []) r) ∙ h ((48 + m % 10) ∷ r) ∙ scan_digit (m / 10) (m % 10) r (omega arith) ∙ ap (λ k. scan k r) same)
     n small
 
 scan_end : (n c : ℕ) (r : List ℕ) → c < 48 → scan n (c ∷ r) ≡ (n, c ∷ r)

@@ -11,7 +11,7 @@ use Rattle.run_record.specs.declared.record.ReadFault.TheVariants as fault
 use Rattle.run_record.specs.RunText.{run_text}
 use Rattle.run_record.specs.Records.{IsWithin, IsRunText, IsSomeRunText, IsFault}
 use Rattle.run_record.specs.Machine.{Symbol, all_due, next, go_on, walk, at_end, run_on, run}
-use Rattle.run_record.specs.Steps.{Reading}
+use Rattle.run_record.specs.Reading.{Reading}
 use Rattle.run_record.specs.Laws.{NoneBeginsAnother, EitherOne, OneFault, ReadsAgain, Gives}
 use Rattle.run_record.proofs.Phrases.{whole_phrase}
 use Rattle.run_record.proofs.Viable.{walk_back}

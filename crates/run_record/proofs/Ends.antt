@@ -6,7 +6,8 @@ use Rattle.run_record.specs.declared.cursor.Stop.TheVariants as stop
 use Rattle.run_record.specs.declared.record.ReadFault.{ReadFault}
 use Rattle.run_record.specs.declared.record.ReadFault.TheVariants.{NotRun}
 use Rattle.run_record.specs.Machine.{Symbol, all_due, run}
-use Rattle.run_record.specs.Steps.{Steps, Stops, StopsBy, Reading}
+use Rattle.run_record.specs.Steps.{Steps, Stops, StopsBy}
+use Rattle.run_record.specs.Reading.{Reading}
 use Rattle.run_record.proofs.Exact.{left_most, fault}
 
 -- the reading stopped at a fault

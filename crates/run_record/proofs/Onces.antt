@@ -121,7 +121,7 @@ whole_back p es rs f w =
     let rest = history_text es ++ (report_text rs ++ last_text f) in
     let short = w.short in
     let text : run_text p es rs f ≡ codes "forder 1\nprogram " ++ (decimal (length p) ++ (10 ∷ (p ++ rest))) =
-        sym (append-nil (run_text p es rs f)) ∙ sym (whole_is p es rs f []) ∙ ap (λ q. program_text p ++ (history_text es ++ (report_text rs ++ q))) (append-nil (last_text f)) ∙ joined rest in
+    sym (append-nil (run_text p es rs f)) ∙ sym (whole_is p es rs f []) ∙ ap (λ q. program_text p ++ (history_text es ++ (report_text rs ++ q))) (append-nil (last_text f)) ∙ joined rest in
     ap (λ q. number_then (λ n r. behind_program (take n (drop 1 r)) (drop n (drop 1 r))) (drop 17 q)) text
     ∙ number_back (λ n r. behind_program (take n (drop 1 r)) (drop n (drop 1 r))) (length p) 10 (p ++ rest) (omega (arith, short)) (omega arith)
     ∙ ap (λ q. behind_program q (drop (length p) (p ++ rest))) (take_front p rest)

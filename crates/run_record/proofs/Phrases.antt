@@ -72,10 +72,12 @@ entry_phrase place xs r h =
     let space = split_word (codes " ") (Act' ∷ []) strand.1 r strand.4 in
     let act = space.2.1 in
     let line : space.0 ≡ action_line act.0 ++ r = act.2 ∙ ap (λ q. action_line act.0 ++ q) space.2.2 in
-    let e : Event = record { task = task.0; strand = strand.0; action = act.0 } in
-    (e, (task.2, strand.2, act.1),
-     front.1 ∙ ap (λ q. decimal place ++ q) (task.3 ∙ ap (λ q. codes " t" ++ (decimal task.0 ++ q)) (strand.3 ∙ ap (λ q. codes " s" ++ (decimal strand.0 ++ q)) (space.1 ∙ ap (λ q. codes " " ++ q) line)))
-     ∙ joined place task.0 strand.0 act.0 r)
+    let e : Event = record { task = task.0; strand = strand.0; action = act.0 } in (
+      e,
+      (task.2, strand.2, act.1),
+      front.1 ∙ ap (λ q. decimal place ++ q) (task.3 ∙ ap (λ q. codes " t" ++ (decimal task.0 ++ q)) (strand.3 ∙ ap (λ q. codes " s" ++ (decimal strand.0 ++ q)) (space.1 ∙ ap (λ q. codes " " ++ q) line)))
+          ∙ joined place task.0 strand.0 act.0 r,
+    )
   where
     joined : (place task strand : ℕ) (a : Action) (r : List ℕ)
         → decimal place ++ (codes " t" ++ (decimal task ++ (codes " s" ++ (decimal strand ++ (codes " " ++ (action_line a ++ r)))))) ≡ entry_line place (record { task = task; strand = strand; action = a }) ++ r
@@ -94,10 +96,12 @@ race_phrase xs r h =
     let cell = split_number (codes "race ") (word_due (codes " ") ++ (word_due (codes " ") ++ due (codes "\n"))) xs r h in
     let first = split_number (codes " ") (word_due (codes " ") ++ due (codes "\n")) cell.1 r cell.4 in
     let second = split_number (codes " ") (due (codes "\n")) first.1 r first.4 in
-    let end = word_phrase (codes "\n") second.1 r second.4 in
-    (record { cell = cell.0; first = first.0; second = second.0 }, (cell.2, first.2, second.2),
-     cell.3 ∙ ap (λ q. codes "race " ++ (decimal cell.0 ++ q)) (first.3 ∙ ap (λ q. codes " " ++ (decimal first.0 ++ q)) (second.3 ∙ ap (λ q. codes " " ++ (decimal second.0 ++ q)) end))
-     ∙ joined cell.0 first.0 second.0 r)
+    let end = word_phrase (codes "\n") second.1 r second.4 in (
+      record { cell = cell.0; first = first.0; second = second.0 },
+      (cell.2, first.2, second.2),
+      cell.3 ∙ ap (λ q. codes "race " ++ (decimal cell.0 ++ q)) (first.3 ∙ ap (λ q. codes " " ++ (decimal first.0 ++ q)) (second.3 ∙ ap (λ q. codes " " ++ (decimal second.0 ++ q)) end))
+          ∙ joined cell.0 first.0 second.0 r,
+    )
   where
     joined : (cell first second : ℕ) (r : List ℕ)
         → codes "race " ++ (decimal cell ++ (codes " " ++ (decimal first ++ (codes " " ++ (decimal second ++ (codes "\n" ++ r)))))) ≡ race_line (record { cell = cell; first = first; second = second }) ++ r
@@ -137,9 +141,12 @@ history_phrase xs r h =
     let front = split_word w (Number kind.Entries ∷ []) xs r h in
     let n = front.2.1 in
     let es = n.4 in
-    let small = n.2 in
-    (es.0, omega (arith, small, es.1), es.2,
-     headed w n.0 (length es.0) xs front.0 n.1 (entry_lines 0 es.0) front.2.0 r front.1 n.3 es.3 front.2.2 es.1 ∙ joined es.0 r)
+    let small = n.2 in (
+      es.0,
+      omega (arith, small, es.1),
+      es.2,
+      headed w n.0 (length es.0) xs front.0 n.1 (entry_lines 0 es.0) front.2.0 r front.1 n.3 es.3 front.2.2 es.1 ∙ joined es.0 r,
+    )
   where
     joined : (es : List Event) (r : List ℕ) → codes "\nentries " ++ (decimal (length es) ++ (10 ∷ (entry_lines 0 es ++ r))) ≡ history_text es ++ r
     joined es r = simp append_assoc
@@ -150,9 +157,12 @@ report_phrase xs r h =
     let front = split_word w (Number kind.Races ∷ []) xs r h in
     let n = front.2.1 in
     let rs = n.4 in
-    let small = n.2 in
-    (rs.0, omega (arith, small, rs.1), rs.2,
-     headed w n.0 (length rs.0) xs front.0 n.1 (race_lines rs.0) front.2.0 r front.1 n.3 rs.3 front.2.2 rs.1 ∙ joined rs.0 r)
+    let small = n.2 in (
+      rs.0,
+      omega (arith, small, rs.1),
+      rs.2,
+      headed w n.0 (length rs.0) xs front.0 n.1 (race_lines rs.0) front.2.0 r front.1 n.3 rs.3 front.2.2 rs.1 ∙ joined rs.0 r,
+    )
   where
     joined : (rs : List Race) (r : List ℕ) → codes "races " ++ (decimal (length rs) ++ (10 ∷ (race_lines rs ++ r))) ≡ report_text rs ++ r
     joined rs r = simp append_assoc
@@ -176,6 +186,11 @@ whole_phrase xs r h =
     let p = program_phrase xs a.0 a.1 in
     let es = history_phrase a.0 b.0 b.1 in
     let rs = report_phrase b.0 c.0 c.1 in
-    let f = last_phrase c.0 r c.2 in
-    (p.0, es.0, rs.0, f.0, record { short = p.1; few = es.1; numbered = es.2; few_races = rs.1; raced = rs.2; finished = f.1 },
-     p.2 ∙ ap (λ q. program_text p.0 ++ q) (es.3 ∙ ap (λ q. history_text es.0 ++ q) (rs.3 ∙ ap (λ q. report_text rs.0 ++ q) f.2)) ∙ whole_is p.0 es.0 rs.0 f.0 r)
+    let f = last_phrase c.0 r c.2 in (
+      p.0,
+      es.0,
+      rs.0,
+      f.0,
+      record { short = p.1; few = es.1; numbered = es.2; few_races = rs.1; raced = rs.2; finished = f.1 },
+      p.2 ∙ ap (λ q. program_text p.0 ++ q) (es.3 ∙ ap (λ q. history_text es.0 ++ q) (rs.3 ∙ ap (λ q. report_text rs.0 ++ q) f.2)) ∙ whole_is p.0 es.0 rs.0 f.0 r,
+    )

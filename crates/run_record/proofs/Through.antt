@@ -78,7 +78,7 @@ signed_goes (pos n) c r small low =
     let top = h.low in
     onward
     (opens Signed (Number kind.Positive) h.head (decimal n ++ (c ∷ r)) (h.tail ++ (c ∷ r))
-     (is_false (nat_eq h.head 45) (Takes (Unsigned ∷ [])) (number_rule kind.Positive h.head) (not_byte h.head 45 (λ e. omega (arith, e, top)))) (ap (λ q. q ++ (c ∷ r)) h.is))
+    (is_false (nat_eq h.head 45) (Takes (Unsigned ∷ [])) (number_rule kind.Positive h.head) (not_byte h.head 45 (λ e. omega (arith, e, top)))) (ap (λ q. q ++ (c ∷ r)) h.is))
     (number_goes kind.Positive n c r (omega arith) low refl)
 signed_goes (negsuc n) c r small low =
     let h = headed (suc n) (omega arith) in
@@ -87,11 +87,11 @@ signed_goes (negsuc n) c r small low =
     let top : 49 ≤ h.head = omega (arith, first, head) in
     let high = h.high in
     let same : rule Unsigned h.head ≡ rule (Number kind.Negative) h.head =
-        is_true (nat_le 49 h.head && nat_le h.head 57) (Takes (Digits kind.Negative (h.head - 48) ∷ [])) Refuses (positive_is h.head top high)
-        ∙ sym (is_true (is_digit h.head) (Takes (Digits kind.Negative (h.head - 48) ∷ [])) Refuses (digit_is h.head (omega (arith, top)) high)) in
+    is_true (nat_le 49 h.head && nat_le h.head 57) (Takes (Digits kind.Negative (h.head - 48) ∷ [])) Refuses (positive_is h.head top high)
+    ∙ sym (is_true (is_digit h.head) (Takes (Digits kind.Negative (h.head - 48) ∷ [])) Refuses (digit_is h.head (omega (arith, top)) high)) in
     onward (takes Signed 45 (Unsigned ∷ []) (45 ∷ (decimal (suc n) ++ (c ∷ r))) (decimal (suc n) ++ (c ∷ r)) refl refl)
     (onward (opens Unsigned (Number kind.Negative) h.head (decimal (suc n) ++ (c ∷ r)) (h.tail ++ (c ∷ r)) same (ap (λ q. q ++ (c ∷ r)) h.is))
-     (number_goes kind.Negative (suc n) c r (omega arith) low refl))
+    (number_goes kind.Negative (suc n) c r (omega arith) low refl))
 
 pub signed_headed : (z : ℤ) → IsSigned z → (x : ℕ) × (ds : List ℕ) × (signed_decimal z ≡ x ∷ ds) × (x < 58)
 signed_headed (pos n) small = let h = headed n (omega arith) in let high = h.high in (h.head, h.tail, h.is, omega (arith, high))
@@ -130,7 +130,7 @@ arguments_go (v ∷ vs) left r few h =
     let text = append_assoc (value_text v) (values_line vs) r ∙ ap (λ q. value_text v ++ q) l.is in
     onward (takes (Arguments left) 32 (Datum ∷ Arguments (left - 1) ∷ []) (32 ∷ ((value_text v ++ values_line vs) ++ r)) ((value_text v ++ values_line vs) ++ r) (space_rule left (omega arith)) refl)
     (after (Datum ∷ []) (Arguments (left - 1) ∷ []) (moved text (value_goes v l.first l.others h.0 l.low))
-     (moved (sym l.is) (arguments_go vs (left - 1) r (omega arith) h.1)))
+    (moved (sym l.is) (arguments_go vs (left - 1) r (omega arith) h.1)))
 
 -- a number behind a word, before a byte that is no digit
 word_goes : (w : List ℕ) (n c : ℕ) (r : List ℕ) → IsNumber n → c < 48 → Steps (word_due w) (w ++ (decimal n ++ (c ∷ r))) [] (c ∷ r)
@@ -155,7 +155,7 @@ call_goes w code child kid cont args r h =
     (after (word_due (codes " t")) (word_due (codes " s") ++ (word_due (codes " s") ++ (Arguments 16 ∷ []))) (word_goes (codes " t") child 32 _ h.1 (omega arith))
     (after (word_due (codes " s")) (word_due (codes " s") ++ (Arguments 16 ∷ [])) (word_goes (codes " s") kid 32 _ h.2 (omega arith))
     (after (word_due (codes " s")) (Arguments 16 ∷ []) (moved (ap (λ q. codes " s" ++ (decimal cont ++ q)) l.is) (word_goes (codes " s") cont l.first l.others h.3 l.low))
-     (moved (sym l.is) (arguments_go args 16 r h.4 h.5))))))
+    (moved (sym l.is) (arguments_go args 16 r h.4 h.5))))))
   where
     joined : (w : List ℕ) (code child kid cont : ℕ) (args : List Value) (r : List ℕ) → (w ++ call_line code child kid cont args) ++ r
         ≡ w ++ (decimal code ++ (32 ∷ (codes "t" ++ (decimal child ++ (32 ∷ (codes "s" ++ (decimal kid ++ (32 ∷ (codes "s" ++ (decimal cont ++ (values_line args ++ r)))))))))))

@@ -89,17 +89,17 @@ behind_builds kind.Races n x = by_if (Digits kind.Races n) x (nat_eq x 10) (race
 digits_builds : (k : Kind) (n x : ℕ) → Builds (Digits k n) x (digits_rule k n x)
 digits_builds k n x = by_cond (Digits k n) x (is_more k n x) (Takes (Digits k (n * 10 + (x - 48)) ∷ [])) (behind_rule k n x)
     (λ e xs r h.
-        let one = both (nat_lt 0 n) (is_digit x && nat_le (n * 10 + (x - 48)) (bound k)) e in
-        let two = both (is_digit x) (nat_le (n * 10 + (x - 48)) (bound k)) one.1 in
-        let d = h.1 in
-        let low = digit_low x two.0 in
-        let high = digit_high x two.0 in
-        let small = bound_small k in
-        let some : 0 < n = grind (arith, nat_tests) in
-        let fits : n * 10 + (x - 48) ≤ bound k = grind (arith, nat_tests) in
-        let is : 48 + (x - 48) ≡ x = omega arith in
-        let more : decimal (n * 10 + (x - 48)) ≡ decimal n ++ x ∷ [] = decimal_more n (x - 48) some (omega arith) (omega (arith, small, fits)) ∙ ap (λ (b : ℕ). decimal n ++ b ∷ []) is in
-        (x ∷ d.0, d.1, d.2, sym (append_assoc (decimal n) (x ∷ []) d.0) ∙ ap (λ q. q ++ d.0) (sym more) ∙ d.3, inr (at_most k (n * 10 + (x - 48)) d.1 fits d.4), ap (λ q. x ∷ q) d.5, subst (λ q. IsCounted k d.1 d.2 q) h.2 d.6))
+    let one = both (nat_lt 0 n) (is_digit x && nat_le (n * 10 + (x - 48)) (bound k)) e in
+    let two = both (is_digit x) (nat_le (n * 10 + (x - 48)) (bound k)) one.1 in
+    let d = h.1 in
+    let low = digit_low x two.0 in
+    let high = digit_high x two.0 in
+    let small = bound_small k in
+    let some : 0 < n = grind (arith, nat_tests) in
+    let fits : n * 10 + (x - 48) ≤ bound k = grind (arith, nat_tests) in
+    let is : 48 + (x - 48) ≡ x = omega arith in
+    let more : decimal (n * 10 + (x - 48)) ≡ decimal n ++ x ∷ [] = decimal_more n (x - 48) some (omega arith) (omega (arith, small, fits)) ∙ ap (λ (b : ℕ). decimal n ++ b ∷ []) is in
+    (x ∷ d.0, d.1, d.2, sym (append_assoc (decimal n) (x ∷ []) d.0) ∙ ap (λ q. q ++ d.0) (sym more) ∙ d.3, inr (at_most k (n * 10 + (x - 48)) d.1 fits d.4), ap (λ q. x ∷ q) d.5, subst (λ q. IsCounted k d.1 d.2 q) h.2 d.6))
     (λ e. behind_builds k n x)
 
 unsigned_builds : (x : ℕ) → Builds Unsigned x (unsigned_rule x)
@@ -138,9 +138,9 @@ signed_builds x = by_cond Signed x (nat_eq x 45) (Takes (Unsigned ∷ [])) (numb
 datum_builds : (x : ℕ) → Builds Datum x (datum_rule x)
 datum_builds x = by_cond Datum x (nat_eq x 102) (Takes (Number kind.Plain ∷ [])) (signed_rule x)
     (λ e xs r h.
-        let n = h.1 in
-        let small = n.2 in
-        (Fut n.0, omega (arith, small), ap (λ (b : ℕ). b ∷ xs) (same_byte x 102 e) ∙ ap (λ q. 102 ∷ q) (n.3 ∙ ap (λ q. decimal n.0 ++ q) (n.4 ∙ h.2))))
+    let n = h.1 in
+    let small = n.2 in
+    (Fut n.0, omega (arith, small), ap (λ (b : ℕ). b ∷ xs) (same_byte x 102 e) ∙ ap (λ q. 102 ∷ q) (n.3 ∙ ap (λ q. decimal n.0 ++ q) (n.4 ∙ h.2))))
     (λ e. lift (signed_rule x) (signed_builds x))
   where
     lift : (a : Answer) → Builds Signed x a → Builds Datum x a
@@ -152,14 +152,17 @@ arguments_builds : (left x : ℕ) → Builds (Arguments left) x (arguments_rule 
 arguments_builds left x = by_cond (Arguments left) x (nat_eq x 10) (Takes []) (takes_if (nat_eq x 32 && nat_lt 0 left) (Datum ∷ Arguments (left - 1) ∷ []))
     (λ e xs r h. ([], omega arith, tt, ap (λ q. x ∷ q) h ∙ ap (λ (b : ℕ). b ∷ r) (same_byte x 10 e)))
     (λ e. by_if (Arguments left) x (nat_eq x 32 && nat_lt 0 left) (Datum ∷ Arguments (left - 1) ∷ []) (λ e xs r h.
-        let two = both (nat_eq x 32) (nat_lt 0 left) e in
-        let v = h.1 in
-        let vs = h.2.1 in
-        let some : 0 < left = grind (arith, nat_tests) in
-        let few = vs.1 in
-        (v.0 ∷ vs.0, omega (arith, some, few), (v.1, vs.2),
-         ap (λ (b : ℕ). b ∷ xs) (same_byte x 32 two.0)
-         ∙ ap (λ q. 32 ∷ q) (v.2 ∙ ap (λ q. value_text v.0 ++ q) (vs.3 ∙ ap (λ q. values_line vs.0 ++ q) h.2.2) ∙ sym (append_assoc (value_text v.0) (values_line vs.0) r)))))
+    let two = both (nat_eq x 32) (nat_lt 0 left) e in
+    let v = h.1 in
+    let vs = h.2.1 in
+    let some : 0 < left = grind (arith, nat_tests) in
+    let few = vs.1 in (
+      v.0 ∷ vs.0,
+      omega (arith, some, few),
+      (v.1, vs.2),
+      ap (λ (b : ℕ). b ∷ xs) (same_byte x 32 two.0)
+          ∙ ap (λ q. 32 ∷ q) (v.2 ∙ ap (λ q. value_text v.0 ++ q) (vs.3 ∙ ap (λ q. values_line vs.0 ++ q) h.2.2) ∙ sym (append_assoc (value_text v.0) (values_line vs.0) r)),
+    )))
 
 -- a read or a write behind its first letter
 access_phrase : (w xs r : List ℕ) → Phrases (access_due w) xs r → (n : ℕ) × (z : ℤ) × IsNumber n × IsSigned z × (xs ≡ w ++ (decimal n ++ (codes " " ++ (signed_decimal z ++ (codes "\n" ++ r)))))
@@ -219,10 +222,12 @@ get_phrase xs r h =
     let future = split_number (codes "et f") (due (codes " ") ++ (Datum ∷ numbered_due (codes " s"))) xs r h in
     let space = split_word (codes " ") (Datum ∷ numbered_due (codes " s")) future.1 r future.4 in
     let v = space.2.1 in
-    let strand = numbered_phrase (codes " s") space.2.0 r space.2.2 in
-    (Gets future.0 v.0 strand.0, (future.2, v.1, strand.1),
-     ap (λ q. 103 ∷ q) (future.3 ∙ ap (λ q. codes "et f" ++ (decimal future.0 ++ q)) (space.1 ∙ ap (λ q. codes " " ++ q) (v.2 ∙ ap (λ q. value_text v.0 ++ q) strand.2)))
-     ∙ joined future.0 v.0 strand.0)
+    let strand = numbered_phrase (codes " s") space.2.0 r space.2.2 in (
+      Gets future.0 v.0 strand.0,
+      (future.2, v.1, strand.1),
+      ap (λ q. 103 ∷ q) (future.3 ∙ ap (λ q. codes "et f" ++ (decimal future.0 ++ q)) (space.1 ∙ ap (λ q. codes " " ++ q) (v.2 ∙ ap (λ q. value_text v.0 ++ q) strand.2)))
+          ∙ joined future.0 v.0 strand.0,
+    )
   where
     joined : (f : ℕ) (v : Value) (s : ℕ) → codes "get f" ++ (decimal f ++ (codes " " ++ (value_text v ++ ((codes " s" ++ (decimal s ++ codes "\n")) ++ r)))) ≡ action_line (Gets f v s) ++ r
     joined f v s = simp append_assoc
@@ -240,11 +245,11 @@ end_phrase xs r h =
 act_of_s_builds : (x : ℕ) → Builds ActOfS x (act_of_s_rule x)
 act_of_s_builds x = by_cond ActOfS x (nat_eq x 112) (Takes (call_due (codes "awn "))) (takes_if (nat_eq x 121) (numbered_due (codes "nc s")))
     (λ e xs r h.
-        let c = call_phrase (codes "awn ") xs r h in
-        (Spawns c.code c.child c.kid c.cont c.args, c.within, ap (λ (b : ℕ). 115 ∷ b ∷ xs) (same_byte x 112 e) ∙ ap (λ q. 115 ∷ 112 ∷ q) c.text))
+    let c = call_phrase (codes "awn ") xs r h in
+    (Spawns c.code c.child c.kid c.cont c.args, c.within, ap (λ (b : ℕ). 115 ∷ b ∷ xs) (same_byte x 112 e) ∙ ap (λ q. 115 ∷ 112 ∷ q) c.text))
     (λ e. by_if ActOfS x (nat_eq x 121) (numbered_due (codes "nc s")) (λ e xs r h.
-        let n = numbered_phrase (codes "nc s") xs r h in
-        (Syncs n.0, n.1, ap (λ (b : ℕ). 115 ∷ b ∷ xs) (same_byte x 121 e) ∙ ap (λ q. 115 ∷ 121 ∷ q) n.2)))
+    let n = numbered_phrase (codes "nc s") xs r h in
+    (Syncs n.0, n.1, ap (λ (b : ℕ). 115 ∷ b ∷ xs) (same_byte x 121 e) ∙ ap (λ q. 115 ∷ 121 ∷ q) n.2)))
 
 accessed : (w : List ℕ) (n : ℕ) (z : ℤ) (r : List ℕ) → w ++ (decimal n ++ (codes " " ++ (signed_decimal z ++ (codes "\n" ++ r)))) ≡ (w ++ (decimal n ++ (codes " " ++ (signed_decimal z ++ codes "\n")))) ++ r
 accessed w n z r = simp append_assoc
@@ -253,18 +258,18 @@ act_builds : (x : ℕ) → Builds Act' x (act_rule x)
 act_builds x =
     by_cond Act' x (nat_eq x 114) _ _
     (λ e xs r h.
-        let a = access_phrase (codes "ead ") xs r h in
-        (Reads a.0 a.1, (a.2, a.3), ap (λ (b : ℕ). b ∷ xs) (same_byte x 114 e) ∙ ap (λ q. 114 ∷ q) (a.4 ∙ accessed (codes "ead ") a.0 a.1 r)))
+    let a = access_phrase (codes "ead ") xs r h in
+    (Reads a.0 a.1, (a.2, a.3), ap (λ (b : ℕ). b ∷ xs) (same_byte x 114 e) ∙ ap (λ q. 114 ∷ q) (a.4 ∙ accessed (codes "ead ") a.0 a.1 r)))
     (λ e. by_cond Act' x (nat_eq x 119) _ _
     (λ e xs r h.
-        let a = access_phrase (codes "rite ") xs r h in
-        (Writes a.0 a.1, (a.2, a.3), ap (λ (b : ℕ). b ∷ xs) (same_byte x 119 e) ∙ ap (λ q. 119 ∷ q) (a.4 ∙ accessed (codes "rite ") a.0 a.1 r)))
+    let a = access_phrase (codes "rite ") xs r h in
+    (Writes a.0 a.1, (a.2, a.3), ap (λ (b : ℕ). b ∷ xs) (same_byte x 119 e) ∙ ap (λ q. 119 ∷ q) (a.4 ∙ accessed (codes "rite ") a.0 a.1 r)))
     (λ e. by_cond Act' x (nat_eq x 115) _ _
     (λ e xs r h. let a = h.1 in (a.0, a.1, ap (λ (b : ℕ). b ∷ xs) (same_byte x 115 e) ∙ a.2 ∙ ap (λ q. action_line a.0 ++ q) h.2))
     (λ e. by_cond Act' x (nat_eq x 99) _ _
     (λ e xs r h.
-        let c = call_phrase (codes "reate ") xs r h in
-        (Creates c.code c.child c.kid c.cont c.args, c.within, ap (λ (b : ℕ). b ∷ xs) (same_byte x 99 e) ∙ ap (λ q. 99 ∷ q) c.text))
+    let c = call_phrase (codes "reate ") xs r h in
+    (Creates c.code c.child c.kid c.cont c.args, c.within, ap (λ (b : ℕ). b ∷ xs) (same_byte x 99 e) ∙ ap (λ q. 99 ∷ q) c.text))
     (λ e. by_cond Act' x (nat_eq x 103) _ _
     (λ e xs r h. let a = get_phrase xs r h in (a.0, a.1, ap (λ (b : ℕ). b ∷ xs) (same_byte x 103 e) ∙ a.2))
     (λ e. by_if Act' x (nat_eq x 101) _ (λ e xs r h. let a = end_phrase xs r h in (a.0, a.1, ap (λ (b : ℕ). b ∷ xs) (same_byte x 101 e) ∙ a.2)))))))
@@ -278,8 +283,8 @@ finish_builds x =
     (λ e. by_cond Finish' x (nat_eq x 108) _ _
     (λ e xs r h. let n = numbered_phrase (codes "ocal ") xs r h in (finish.Local n.0, n.1, ap (λ (b : ℕ). b ∷ xs) (same_byte x 108 e) ∙ ap (λ q. 108 ∷ q) n.2))
     (λ e. by_if Finish' x (nat_eq x 102) _ (λ e xs r h.
-        let n = numbered_phrase (codes "utures ") xs r h in
-        (finish.Futures n.0, n.1, ap (λ (b : ℕ). b ∷ xs) (same_byte x 102 e) ∙ ap (λ q. 102 ∷ q) n.2)))))
+    let n = numbered_phrase (codes "utures ") xs r h in
+    (finish.Futures n.0, n.1, ap (λ (b : ℕ). b ∷ xs) (same_byte x 102 e) ∙ ap (λ q. 102 ∷ q) n.2)))))
 
 builds : (a : Symbol) (x : ℕ) → Builds a x (rule a x)
 builds (Byte b) x = byte_builds b x

@@ -15,10 +15,8 @@ use Rattle.run_record.specs.declared.cursor.Stop.TheVariants as stop
 use Rattle.run_record.specs.declared.digits.Kind.{Kind}
 use Rattle.run_record.specs.declared.digits.Kind.TheVariants as kind
 use Rattle.run_record.specs.declared.record.RunText.{RunText}
-use Rattle.run_record.specs.declared.record.ReadFault.{ReadFault}
-use Rattle.run_record.specs.declared.record.ReadFault.TheVariants as fault
 use Rattle.run_record.specs.RunText.{call_line, entry_lines, race_lines, run_text}
-use Rattle.run_record.specs.Records.{IsNumber, IsSigned, AreValues, IsCall, AreEvents, AreRaces, IsFinish, IsWithin, IsRunText, IsFault}
+use Rattle.run_record.specs.Records.{IsNumber, IsSigned, AreValues, IsCall, AreEvents, AreRaces, IsFinish, IsWithin}
 use Rattle.run_record.specs.Machine.{Symbol, Byte, Number, Digits, due, run, is_more, bound, bytes_due, entries_due, races_due}
 
 abbrev pub front : List ℕ → Option ℕ
@@ -175,10 +173,3 @@ whole_text r = run_text r.program.items (events_of r.history) r.races.items r.fi
 
 abbrev pub IsWhole : RunText → Type 0
 IsWhole r = IsWithin r.program.items (events_of r.history) r.races.items r.finish
-
--- the bytes are the run text of what was read, or none, with the count of bytes of the longest beginning of a run text, or
--- there was no memory
-abbrev pub Reading : List ℕ → Result RunText ReadFault → Type 0
-Reading bytes (Ok r) = IsRunText bytes r.program.items (events_of r.history) r.races.items r.finish
-Reading bytes (Err (fault.NotRun count)) = IsFault bytes count
-Reading bytes (Err fault.NoMemory) = Unit {0}

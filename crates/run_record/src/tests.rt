@@ -9,10 +9,16 @@ use std::process::Abort;
 use std::test::Fail;
 
 /// Each act, each form of value, and numbers at their bounds.
-const EACH: &str = "forder 1\nprogram 5\nab\ncd\nentries 9\n0 t0 s0 create 3 t1 s1 s2 f7 -5 0\n1 t1 s1 write 4294967295 -9223372036854775808\n2 t1 s1 end 9223372036854775807\n3 t0 s2 get f1 f12 s3\n4 t0 s3 spawn 0 t2 s4 s5\n5 t2 s4 read 0 10\n6 t2 s4 end 0\n7 t0 s5 sync s6\n8 t0 s6 end f3\nraces 2\nrace 0 1 4\nrace 10 20 4294967295\nfinish whole\nend\n";
+const EACH: &str =
+    "forder 1\nprogram 5\nab\ncd\nentries 9\n0 t0 s0 create 3 t1 s1 s2 f7 -5 0\n1 t1 s1 write 4294967295 -9223372036854775808\n2 t1 s1 end 9223372036854775807\n3 t0 s2 get f1 f12 s3\n4 t0 s3 spawn 0 t2 s4 s5\n5 t2 s4 read 0 10\n6 t2 s4 end 0\n7 t0 s5 sync s6\n8 t0 s6 end f3\nraces 2\nrace 0 1 4\nrace 10 20 4294967295\nfinish whole\nend\n";
 
-/// Where the program's bytes stand in it.
+/// A child writes, and its parent before it waits.
+const RACE: &str =
+    "forder 1\nprogram 110\ncells a[1];\ntask kid() int { a[0] = 1; return 0; }\ntask main() int { spawn kid(); a[0] = 2; sync; return 0; }\n\nentries 6\n0 t0 s0 spawn 0 t1 s1 s2\n1 t1 s1 write 0 1\n2 t1 s1 end 0\n3 t0 s2 write 0 2\n4 t0 s2 sync s3\n5 t0 s3 end 0\nraces 1\nrace 0 1 3\nfinish whole\nend\n";
+
+/// Where the program's bytes stand in the first.
 const PROGRAM_FROM: usize = 19;
+
 const PROGRAM_TO: usize = 24;
 
 /// No entries.
@@ -47,6 +53,7 @@ fn texts_again(rt: HostRuntime) -> Result<(), Fail> {
     let alloc = rt.alloc();
     let texts = [
         EACH,
+        RACE,
         NONE,
         "forder 1\nprogram 1\n\n\nentries 1\n0 t0 s0 end 0\nraces 0\nfinish events 1\nend\n",
         "forder 1\nprogram 0\n\nentries 0\nraces 0\nfinish local 4294967295\nend\n",
@@ -65,12 +72,18 @@ fn cuts_and_wrong_bytes(rt: HostRuntime) -> Result<(), Fail> {
     let bytes = EACH.as_bytes();
     let mut other = Vec::from_slice(alloc, bytes)?;
     for (place, byte) in bytes.iter().enumerate() {
-        assert!(rt; fault(alloc, &bytes[..place]) == Some(place as u32), "cut at {place}");
+        assert!(rt;
+            fault(alloc, &bytes[..place]) == Some(place as u32),
+            "cut at {place}"
+        );
         other[place] = b'!';
         if place >= PROGRAM_FROM && place < PROGRAM_TO {
             assert!(rt; is_again(alloc, &other)?, "another program at {place}");
         } else {
-            assert!(rt; fault(alloc, &other) == Some(place as u32), "wrong at {place}");
+            assert!(rt;
+                fault(alloc, &other) == Some(place as u32),
+                "wrong at {place}"
+            );
         }
         other[place] = *byte;
     }
