@@ -1,13 +1,12 @@
 -- What a part of the reader did.
 use denote.Ref.{Bor}
-use Rattle.std.specs.Prelude.{◌≡◌, ℕ, suc, ◌+◌, ◌<◌, ◌≤◌, ℤ, Bool, true, false, List, [], ◌∷◌, ◌++◌, length, Option, Some, None, Result, Ok, Err, decimal, codes}
+use Rattle.std.specs.Prelude.{◌≡◌, ℕ, ◌≤◌, Bool, true, false, List, [], ◌∷◌, ◌++◌, length, Option, Some, None, Result, Ok, Err, decimal, codes}
 use Rattle.std.specs.Fmt.{signed_decimal}
 use Rattle.fut_base.specs.Listed.{Listed}
 use Rattle.fut_base.specs.Events.{events_of}
 use Rattle.fut_base.specs.declared.event.Event.{Event}
 use Rattle.fut_base.specs.declared.record.Value.{Value}
 use Rattle.fut_base.specs.declared.record.Race.{Race}
-use Rattle.fut_base.specs.declared.record.Finish.{Finish}
 use Rattle.run_record.specs.declared.acts.Access.{Access}
 use Rattle.run_record.specs.declared.acts.Call.{Call}
 use Rattle.run_record.specs.declared.cursor.Stop.{Stop}
@@ -16,8 +15,8 @@ use Rattle.run_record.specs.declared.digits.Kind.{Kind}
 use Rattle.run_record.specs.declared.digits.Kind.TheVariants as kind
 use Rattle.run_record.specs.declared.record.RunText.{RunText}
 use Rattle.run_record.specs.RunText.{call_line, entry_lines, race_lines, run_text}
-use Rattle.run_record.specs.Records.{IsNumber, IsSigned, AreValues, IsCall, AreEvents, AreRaces, IsFinish, IsWithin}
-use Rattle.run_record.specs.Machine.{Symbol, Byte, Number, Digits, due, run, is_more, bound, bytes_due, entries_due, races_due}
+use Rattle.run_record.specs.Records.{IsNumber, IsSigned, AreValues, IsCall, AreEvents, AreRaces, IsWithin}
+use Rattle.run_record.specs.Machine.{Symbol, Number, Digits, due, run, is_more, bound, bytes_due, entries_due, races_due}
 
 abbrev pub front : List ℕ → Option ℕ
 front [] = None

@@ -24,8 +24,14 @@ const PROGRAM_TO: usize = 24;
 /// No entries.
 const NONE: &str = "forder 1\nprogram 0\n\nentries 0\nraces 0\nfinish whole\nend\n";
 
+/// No text here is longer.
+const LONGEST: usize = 1024;
+
 /// Whether the bytes are read and written as they were.
 fn is_again(alloc: Global, bytes: &[u8]) -> Result<bool, Fail> {
+    if bytes.len() > LONGEST {
+        return Ok(false);
+    }
     let Ok(run) = read_run(alloc, bytes) else {
         return Ok(false);
     };
@@ -41,9 +47,12 @@ fn is_again(alloc: Global, bytes: &[u8]) -> Result<bool, Fail> {
 }
 
 /// Where the bytes cease to be a run text.
-fn fault(alloc: Global, bytes: &[u8]) -> Option<u32> {
+fn fault(alloc: Global, bytes: &[u8]) -> Option<usize> {
+    if bytes.len() > LONGEST {
+        return None;
+    }
     match read_run(alloc, bytes) {
-        Err(ReadFault::NotRun { byte }) => Some(byte),
+        Err(ReadFault::NotRun { byte }) => Some(byte as usize),
         _ => None,
     }
 }
@@ -73,17 +82,14 @@ fn cuts_and_wrong_bytes(rt: HostRuntime) -> Result<(), Fail> {
     let mut other = Vec::from_slice(alloc, bytes)?;
     for (place, byte) in bytes.iter().enumerate() {
         assert!(rt;
-            fault(alloc, &bytes[..place]) == Some(place as u32),
+            fault(alloc, &bytes[..place]) == Some(place),
             "cut at {place}"
         );
         other[place] = b'!';
         if place >= PROGRAM_FROM && place < PROGRAM_TO {
             assert!(rt; is_again(alloc, &other)?, "another program at {place}");
         } else {
-            assert!(rt;
-                fault(alloc, &other) == Some(place as u32),
-                "wrong at {place}"
-            );
+            assert!(rt; fault(alloc, &other) == Some(place), "wrong at {place}");
         }
         other[place] = *byte;
     }
@@ -146,9 +152,9 @@ fn faults(rt: HostRuntime) -> Result<(), Fail> {
     for text in texts {
         let mut bytes = Vec::new(alloc);
         let mut bar = None;
-        for byte in text.as_bytes() {
+        for (place, byte) in text.as_bytes().iter().enumerate() {
             if *byte == b'|' {
-                bar = Some(bytes.len() as u32);
+                bar = Some(place);
             } else {
                 bytes.push(*byte)?;
             }
