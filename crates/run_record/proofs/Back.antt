@@ -1,18 +1,14 @@
 -- What a run text was written of, read back from it.
-use Rattle.std.proofs.Common.{◌≡◌, ℕ, zero, suc, ◌+◌, ◌-◌, ◌*◌, ◌/◌, ◌%◌, ◌<◌, ◌≤◌, ◌^◌, ℤ, pos, negsuc, Bool, true, false, cond, nat_eq, nat_le, ◌&&◌, List, [], ◌∷◌, ◌++◌, length, take, drop, get_or, refl, sym, ap, subst, ◌∙◌, append_assoc, append-nil, arith, decimal, codes}
+use Rattle.std.proofs.Common.{◌≡◌, ℕ, zero, suc, ◌+◌, ◌-◌, ◌*◌, ◌/◌, ◌%◌, ◌<◌, ◌≤◌, ◌^◌, ℤ, pos, negsuc, false, cond, nat_eq, List, [], ◌∷◌, ◌++◌, length, drop, get_or, refl, sym, ap, ◌∙◌, append_assoc, arith, decimal, codes}
 use Rattle.std.specs.Fmt.{signed_decimal}
 use Rattle.std.proofs.lemmas.Bool.Decides.{nat_tests}
 use Rattle.std.proofs.lemmas.Fmt.{decimal_by_steps}
-use Rattle.fut_base.specs.declared.event.Event.{Event}
 use Rattle.fut_base.specs.declared.event.Action.{Action}
 use Rattle.fut_base.specs.declared.event.Action.TheVariants.{Reads, Writes, Spawns, Creates, Syncs, Gets, Ends}
 use Rattle.fut_base.specs.declared.record.Value.{Value}
 use Rattle.fut_base.specs.declared.record.Value.TheVariants.{Int, Fut}
-use Rattle.fut_base.specs.declared.record.Race.{Race}
-use Rattle.fut_base.specs.declared.record.Finish.{Finish}
-use Rattle.fut_base.specs.declared.record.Finish.TheVariants as finish
-use Rattle.run_record.specs.RunText.{value_text, values_line, call_line, action_line, entry_line, entry_lines, race_line, race_lines, finish_line, last_text, run_text}
-use Rattle.run_record.specs.Records.{IsNumber, IsSigned, IsValue, AreValues, IsCall, IsAction, IsEvent, AreEvents, IsRace, AreRaces, IsFinish, IsWithin}
+use Rattle.run_record.specs.RunText.{value_text, values_line, call_line, action_line}
+use Rattle.run_record.specs.Records.{IsNumber, IsSigned, IsValue, AreValues, IsCall, IsAction}
 use Rattle.run_record.specs.Machine.{is_digit}
 use Rattle.run_record.proofs.Numerals.{is_true, is_false}
 use Rattle.run_record.proofs.Through.{headed, signed_headed, lined, digit_is, not_byte}

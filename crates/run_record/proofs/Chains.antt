@@ -1,10 +1,9 @@
 -- How the steps of a part follow from those of its parts.
-use Rattle.std.proofs.Common.{◌≡◌, ℕ, suc, ◌+◌, ◌≤◌, Bool, true, false, List, [], ◌∷◌, ◌++◌, length, refl, sym, ap, subst, ◌∙◌, append_assoc, append-nil, arith, Option, Some, None, map}
-use Rattle.std.proofs.lemmas.Bool.Decides.{nat_tests}
+use Rattle.std.proofs.Common.{◌≡◌, ℕ, List, [], ◌∷◌, ◌++◌, length, refl, sym, ap, subst, ◌∙◌, append_assoc, Some}
 use Rattle.run_record.specs.declared.cursor.Stop.{Stop}
 use Rattle.run_record.specs.declared.cursor.Stop.TheVariants as stop
-use Rattle.run_record.specs.Machine.{Symbol, Byte, Takes, Passes, Refuses, due, rule, run}
-use Rattle.run_record.specs.Steps.{Steps, Halts, Stops, StopsBy, Read, ReadOn, behind}
+use Rattle.run_record.specs.Machine.{Symbol, Takes, Refuses, rule, run}
+use Rattle.run_record.specs.Steps.{Steps, Stops, StopsBy, Read, ReadOn}
 use Rattle.std.specs.Prelude.{Result, Ok, Err}
 use Rattle.run_record.proofs.Numerals as numerals
 

@@ -1,15 +1,14 @@
 -- What the first bytes are to the machine.
-use Rattle.std.proofs.Common.{◌≡◌, ℕ, zero, suc, ◌+◌, ◌-◌, ◌*◌, ◌/◌, ◌<◌, ◌≤◌, ◌^◌, Bool, true, false, cond, nat_eq, List, [], ◌∷◌, ◌++◌, length, get_or, take, drop, refl, sym, ap, subst, ◌∙◌, append_assoc, arith, decimal, Option, Some, None, rules}
+use Rattle.std.proofs.Common.{◌≡◌, ℕ, zero, suc, ◌+◌, ◌-◌, ◌*◌, ◌<◌, ◌≤◌, Bool, true, false, nat_eq, List, [], ◌∷◌, ◌++◌, length, drop, refl, sym, ap, subst, ◌∙◌, append_assoc, arith, decimal, Some, None}
 use Rattle.std.proofs.lemmas.Bool.Decides.{nat_tests}
 use Rattle.std.proofs.Math.Seq.{drop-cons}
 use Rattle.std.proofs.lemmas.Fmt.{decimal_digit}
 use Rattle.run_record.specs.declared.cursor.Stop.TheVariants as stop
 use Rattle.run_record.specs.declared.digits.Kind.{Kind}
 use Rattle.run_record.specs.declared.digits.Kind.TheVariants as kind
-use Rattle.run_record.specs.Machine.{Symbol, Any, Number, Digits, Takes, Passes, Refuses, due, bytes_due, bound, rule, behind_rule, takes_if, is_more, digits_rule, run}
-use Rattle.run_record.specs.Steps.{Steps, Halts, Stops, front, behind, Grew, IsDigits, EndsAt, counted, is_count}
-use Rattle.run_record.proofs.Numerals as numerals
-use Rattle.run_record.proofs.Numerals.{is_true, is_false, bound_small, decimal_more, first_digit, next_digit}
+use Rattle.run_record.specs.Machine.{Symbol, Number, Digits, Takes, Refuses, due, bytes_due, bound, rule, behind_rule, takes_if, is_more, run}
+use Rattle.run_record.specs.Steps.{Steps, Stops, front, behind, Grew, IsDigits, EndsAt, counted, is_count}
+use Rattle.run_record.proofs.Numerals.{is_false, bound_small, decimal_more, first_digit, next_digit}
 use Rattle.run_record.proofs.Chains.{onward, onward_stops, takes, halts, short}
 
 pub in_view : (xs : List ℕ) (x : ℕ) → front xs ≡ Some x → xs ≡ x ∷ behind xs

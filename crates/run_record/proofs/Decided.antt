@@ -1,18 +1,12 @@
 -- Bytes are a run text or have one fault.
-use Rattle.std.proofs.Common.{◌≡◌, ℕ, suc, ◌≤◌, ◌⊎◌, inl, inr, List, [], ◌∷◌, ◌++◌, length, refl, sym, ap, subst, ◌∙◌, append-nil, arith, le_antisymm}
-use Rattle.std.specs.Prelude.{Option, Some, None, Result, Ok, Err}
+use Rattle.std.proofs.Common.{◌≡◌, ℕ, suc, ◌⊎◌, inl, inr, List, [], ◌∷◌, ◌++◌, length, refl, sym, ap, ◌∙◌, append-nil, le_antisymm}
+use Rattle.std.specs.Prelude.{Option, Some, None, Ok, Err}
 use Rattle.fut_base.specs.Events.{events_of}
-use Rattle.fut_base.specs.declared.event.Event.{Event}
-use Rattle.fut_base.specs.declared.record.Race.{Race}
-use Rattle.fut_base.specs.declared.record.Finish.{Finish}
-use Rattle.run_record.specs.declared.record.RunText.{RunText}
-use Rattle.run_record.specs.declared.record.ReadFault.{ReadFault}
 use Rattle.run_record.specs.declared.record.ReadFault.TheVariants as fault
 use Rattle.run_record.specs.RunText.{run_text}
-use Rattle.run_record.specs.Records.{IsWithin, IsRunText, IsSomeRunText, IsFault}
+use Rattle.run_record.specs.Records.{IsSomeRunText, IsFault}
 use Rattle.run_record.specs.Machine.{Symbol, all_due, next, go_on, walk, at_end, run_on, run}
-use Rattle.run_record.specs.Steps.{Reading}
-use Rattle.run_record.specs.Laws.{NoneBeginsAnother, EitherOne, OneFault, ReadsAgain, Gives}
+use Rattle.run_record.specs.Laws.{NoneBeginsAnother, EitherOne, OneFault, ReadsAgain}
 use Rattle.run_record.proofs.Phrases.{whole_phrase}
 use Rattle.run_record.proofs.Viable.{walk_back}
 use Rattle.run_record.proofs.Through.{through}

@@ -1,12 +1,13 @@
 -- The end of reading.
-use Rattle.std.proofs.Common.{◌≡◌, ℕ, suc, ◌-◌, ◌≤◌, List, [], ◌∷◌, ◌++◌, length, refl, sym, ap, subst, ◌∙◌}
+use Rattle.std.proofs.Common.{◌≡◌, ℕ, ◌-◌, ◌≤◌, List, [], ◌∷◌, length, refl, sym, subst, ◌∙◌}
 use Rattle.std.specs.Prelude.{Some, Err}
 use Rattle.run_record.specs.declared.cursor.Stop.{Stop}
 use Rattle.run_record.specs.declared.cursor.Stop.TheVariants as stop
 use Rattle.run_record.specs.declared.record.ReadFault.{ReadFault}
 use Rattle.run_record.specs.declared.record.ReadFault.TheVariants.{NotRun}
-use Rattle.run_record.specs.Machine.{Symbol, all_due, run}
-use Rattle.run_record.specs.Steps.{Steps, Stops, StopsBy, Reading}
+use Rattle.run_record.specs.Machine.{all_due, run}
+use Rattle.run_record.specs.Steps.{Steps, Stops, StopsBy}
+use Rattle.run_record.specs.Reading.{Reading}
 use Rattle.run_record.proofs.Exact.{left_most, fault}
 
 -- the reading stopped at a fault

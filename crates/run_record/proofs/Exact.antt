@@ -1,11 +1,8 @@
 -- Where the run stops is the fault. Nothing here names a symbol.
-use Rattle.std.proofs.Common.{◌≡◌, ℕ, zero, suc, ◌+◌, ◌-◌, ◌<◌, ◌≤◌, List, [], ◌∷◌, ◌++◌, ◌⊎◌, inl, inr, refl, sym, subst, ap, ◌∙◌, append_assoc, append-nil, length, length-append, take, drop, take-append-drop, arith, ⊎_elim}
+use Rattle.std.proofs.Common.{◌≡◌, ℕ, zero, suc, ◌-◌, ◌<◌, ◌≤◌, List, [], ◌∷◌, ◌++◌, ◌⊎◌, inl, inr, refl, sym, subst, ap, ◌∙◌, append_assoc, append-nil, length, length-append, take, arith, ⊎_elim}
 use Rattle.std.specs.Prelude.{Option, Some, None}
-use Rattle.fut_base.specs.declared.event.Event.{Event}
-use Rattle.fut_base.specs.declared.record.Race.{Race}
-use Rattle.fut_base.specs.declared.record.Finish.{Finish}
 use Rattle.run_record.specs.RunText.{run_text}
-use Rattle.run_record.specs.Records.{IsRunText, IsSomeRunText, Begins, IsFault}
+use Rattle.run_record.specs.Records.{IsSomeRunText, Begins, IsFault}
 use Rattle.run_record.specs.Machine.{Symbol, all_due, next, go_on, walk, at_end, run_on, run}
 use Rattle.run_record.proofs.Viable.{begins, walk_some}
 use Rattle.run_record.proofs.Through.{through}

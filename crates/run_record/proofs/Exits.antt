@@ -1,5 +1,5 @@
 -- Ends of the reader's functions.
-use Rattle.std.proofs.Common.{◌≡◌, ℕ, zero, suc, Bool, true, false, ◌&&◌, nat_eq, nat_le, ◌+◌, ◌-◌, ◌<◌, ◌≤◌, ◌^◌, ℤ, negsuc, pos, List, [], ◌∷◌, ◌++◌, length, refl, sym, ap, subst, ◌∙◌, append_assoc, append-nil, arith, decimal, codes, Option, Some, None, w64, of_z, to_z, to_z-of_z}
+use Rattle.std.proofs.Common.{◌≡◌, ℕ, zero, suc, true, false, ◌&&◌, nat_eq, nat_le, ◌+◌, ◌-◌, ◌<◌, ◌≤◌, ℤ, negsuc, pos, List, [], ◌∷◌, ◌++◌, length, sym, ap, subst, ◌∙◌, arith, decimal, w64, of_z, to_z, to_z-of_z}
 use Rattle.std.specs.Int.Signed.{mag}
 use Rattle.std.proofs.lemmas.Int.{to_z_pos}
 use Rattle.std.specs.Fmt.{signed_decimal}
@@ -8,13 +8,13 @@ use Rattle.std.proofs.lemmas.Fmt.{decimal_digit}
 use Rattle.run_record.specs.declared.cursor.Stop.TheVariants as stop
 use Rattle.run_record.specs.declared.digits.Kind.{Kind}
 use Rattle.run_record.specs.declared.digits.Kind.TheVariants as kind
-use Rattle.run_record.specs.Machine.{Symbol, Number, Digits, Unsigned, Signed, Datum, Takes, Passes, rule, behind_rule, number_rule, signed_rule, by_answer, next, bound, run_on, run}
+use Rattle.run_record.specs.Machine.{Symbol, Number, Digits, Unsigned, Signed, Datum, Takes, Passes, rule, behind_rule, number_rule, signed_rule, by_answer, next, run_on, run}
 use Rattle.run_record.specs.Records.{IsSigned}
-use Rattle.run_record.specs.Steps.{Steps, Stops, front, behind, Grew, IsDigits, EndsAt}
+use Rattle.run_record.specs.Steps.{Steps, Stops, front, Grew, IsDigits}
 use Rattle.run_record.proofs.Numerals as numerals
 use Rattle.run_record.proofs.Numerals.{is_true, is_false}
-use Rattle.run_record.proofs.Chains.{onward, onward_stops, takes, halts, short}
-use Rattle.run_record.proofs.Cursors.{ends_rule, in_view}
+use Rattle.run_record.proofs.Chains.{onward, onward_stops, takes, short}
+use Rattle.run_record.proofs.Cursors.{ends_rule}
 
 -- a number is behind its digits, where a byte follows that is none
 pub passes : (a : Symbol) (x : ℕ) (xs ys : List ℕ) → rule a x ≡ Passes → xs ≡ x ∷ ys → Steps (a ∷ []) xs [] xs

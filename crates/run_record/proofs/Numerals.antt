@@ -1,10 +1,10 @@
 -- Decimal numbers and the machine's digits.
-use Rattle.std.proofs.Common.{◌≡◌, ℕ, zero, suc, ◌+◌, ◌-◌, ◌*◌, ◌/◌, ◌%◌, ◌^◌, ◌<◌, ◌≤◌, Bool, true, false, cond, ◌&&◌, nat_le, nat_lt, nat_eq, List, [], ◌∷◌, ◌++◌, length, refl, sym, ap, ◌∙◌, append_assoc, arith, decimal, Option, Some, None}
+use Rattle.std.proofs.Common.{◌≡◌, ℕ, suc, ◌+◌, ◌-◌, ◌*◌, ◌/◌, ◌%◌, ◌^◌, ◌<◌, ◌≤◌, Bool, true, false, cond, List, [], ◌∷◌, ◌++◌, length, refl, ap, ◌∙◌, append_assoc, arith, decimal, Some}
 use Rattle.std.proofs.lemmas.Bool.Decides.{nat_tests}
-use Rattle.std.proofs.lemmas.Fmt.{decimal_digit, decimal_step, decimal_by_steps}
+use Rattle.std.proofs.lemmas.Fmt.{decimal_step, decimal_by_steps}
 use Rattle.run_record.specs.declared.digits.Kind.{Kind}
 use Rattle.run_record.specs.declared.digits.Kind.TheVariants as kind
-use Rattle.run_record.specs.Machine.{Symbol, Number, Digits, Answer, Takes, Passes, Refuses, bound, is_digit, is_more, digits_rule, number_rule, behind_rule, rule, by_answer, next, run_on, run}
+use Rattle.run_record.specs.Machine.{Symbol, Number, Digits, Takes, Passes, Refuses, bound, is_digit, is_more, behind_rule, rule, by_answer, next, run_on, run}
 
 pub bound_small : (k : Kind) → bound k < 2 ^ 64
 bound_small kind.Plain = omega arith

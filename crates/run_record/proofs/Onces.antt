@@ -1,12 +1,12 @@
 -- A text is the run text of one value.
-use Rattle.std.proofs.Common.{◌≡◌, ℕ, zero, suc, ◌+◌, ◌-◌, ◌<◌, ◌≤◌, ◌^◌, Bool, true, false, cond, nat_eq, List, [], ◌∷◌, ◌++◌, length, take, drop, get_or, refl, sym, ap, subst, ◌∙◌, append_assoc, append-nil, arith, decimal, codes}
+use Rattle.std.proofs.Common.{◌≡◌, ℕ, zero, suc, ◌+◌, ◌<◌, ◌≤◌, ◌^◌, cond, nat_eq, List, [], ◌∷◌, ◌++◌, length, take, drop, get_or, refl, sym, ap, ◌∙◌, append_assoc, append-nil, arith, decimal, codes}
 use Rattle.fut_base.specs.declared.event.Event.{Event}
 use Rattle.fut_base.specs.declared.event.Action.{Action}
 use Rattle.fut_base.specs.declared.record.Race.{Race}
 use Rattle.fut_base.specs.declared.record.Finish.{Finish}
 use Rattle.fut_base.specs.declared.record.Finish.TheVariants as finish
 use Rattle.run_record.specs.RunText.{action_line, entry_line, entry_lines, race_line, race_lines, finish_line, last_text, run_text}
-use Rattle.run_record.specs.Records.{IsEvent, AreEvents, IsRace, AreRaces, IsFinish, IsWithin, IsRunText}
+use Rattle.run_record.specs.Records.{AreEvents, AreRaces, IsFinish, IsWithin}
 use Rattle.run_record.specs.Steps.{program_text, history_text, report_text}
 use Rattle.run_record.specs.Laws.{OneValue}
 use Rattle.run_record.proofs.Joined.{whole_is}

@@ -1,5 +1,5 @@
 -- The bytes that a symbol stands for, in front of others.
-use Rattle.std.proofs.Common.{◌≡◌, ℕ, zero, suc, ◌+◌, ◌-◌, ◌<◌, ◌≤◌, ◌⊎◌, ℤ, pos, negsuc, List, [], ◌∷◌, ◌++◌, length, refl, sym, ap, subst, ◌∙◌, append_assoc, arith, decimal, codes}
+use Rattle.std.proofs.Common.{◌≡◌, ℕ, zero, suc, ◌+◌, ◌<◌, ◌≤◌, ◌⊎◌, ℤ, List, [], ◌∷◌, ◌++◌, length, refl, sym, ap, ◌∙◌, append_assoc, arith, decimal, codes}
 use Rattle.std.specs.Fmt.{signed_decimal}
 use Rattle.fut_base.specs.declared.event.Event.{Event}
 use Rattle.fut_base.specs.declared.event.Action.{Action}
@@ -11,7 +11,7 @@ use Rattle.run_record.specs.declared.digits.Kind.TheVariants as kind
 use Rattle.run_record.specs.RunText.{value_text, values_line, action_line, entry_line, entry_lines, race_line, race_lines, finish_line, last_text, run_text}
 use Rattle.run_record.specs.Records.{IsNumber, IsSigned, IsValue, AreValues, IsAction, IsEvent, AreEvents, IsRace, AreRaces, IsFinish, IsWithin}
 use Rattle.run_record.specs.Machine.{Symbol, Byte, Any, Number, Digits, Unsigned, Signed, Datum, Arguments, Act', ActOfS, Finish', due, word_due, entry_due, entries_due, race_due, races_due, bytes_due, bound, program_due, history_due, report_due, last_due, all_due}
-use Rattle.run_record.specs.Steps.{counted, program_text, history_text, report_text}
+use Rattle.run_record.specs.Steps.{program_text, history_text, report_text}
 use Rattle.run_record.proofs.Joined.{whole_is}
 
 -- what stands behind the digits of a number

@@ -1,11 +1,11 @@
 -- Lists that grow at their end, and the lines of them.
-use Rattle.std.proofs.Common.{◌≡◌, ℕ, zero, suc, ◌+◌, ◌-◌, ◌*◌, ◌<◌, ◌≤◌, List, [], ◌∷◌, ◌++◌, length, map, refl, sym, ap, subst, ◌∙◌, append_assoc, append-nil, arith, decimal, codes}
+use Rattle.std.proofs.Common.{◌≡◌, ℕ, suc, ◌+◌, ◌-◌, ◌<◌, List, [], ◌∷◌, ◌++◌, length, map, refl, sym, ap, ◌∙◌, append_assoc, append-nil, arith}
 use Rattle.fut_base.specs.declared.event.Event.{Event}
 use Rattle.fut_base.specs.declared.record.Entry.{Entry}
 use Rattle.fut_base.specs.declared.record.Race.{Race}
 use Rattle.fut_base.specs.declared.record.Value.{Value}
 use Rattle.fut_base.specs.Events.{event_of}
-use Rattle.run_record.specs.RunText.{value_text, values_line, entry_line, entry_lines, race_line, race_lines}
+use Rattle.run_record.specs.RunText.{entry_line, entry_lines, race_line, race_lines}
 use Rattle.run_record.specs.Records.{IsValue, AreValues, IsEvent, AreEvents, IsRace, AreRaces}
 use Rattle.run_record.specs.Machine.{Symbol, entry_due, entries_due, race_due, races_due, run}
 use Rattle.run_record.specs.Steps.{Steps}

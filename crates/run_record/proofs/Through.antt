@@ -1,5 +1,5 @@
 -- A run text goes through.
-use Rattle.std.proofs.Common.{◌≡◌, ℕ, zero, suc, ◌+◌, ◌-◌, ◌*◌, ◌/◌, ◌%◌, ◌<◌, ◌≤◌, ◌^◌, ◌⊎◌, inl, inr, ℤ, pos, negsuc, Bool, true, false, cond, nat_eq, nat_lt, nat_le, ◌&&◌, List, [], ◌∷◌, ◌++◌, length, get_or, refl, sym, ap, subst, ◌∙◌, append_assoc, append-nil, arith, decimal, codes, Option, Some, None}
+use Rattle.std.proofs.Common.{◌≡◌, ℕ, suc, ◌+◌, ◌-◌, ◌%◌, ◌<◌, ◌≤◌, ◌^◌, ℤ, pos, negsuc, true, false, nat_eq, nat_lt, nat_le, ◌&&◌, List, [], ◌∷◌, ◌++◌, length, get_or, refl, sym, ap, subst, ◌∙◌, append_assoc, arith, decimal, codes}
 use Rattle.std.specs.Fmt.{signed_decimal}
 use Rattle.std.proofs.lemmas.Bool.Decides.{nat_tests}
 use Rattle.std.proofs.lemmas.Fmt.{decimal_by_steps, first_decimal}
@@ -15,13 +15,12 @@ use Rattle.run_record.specs.declared.digits.Kind.{Kind}
 use Rattle.run_record.specs.declared.digits.Kind.TheVariants as kind
 use Rattle.run_record.specs.RunText.{value_text, values_line, call_line, action_line, entry_line, entry_lines, race_line, race_lines, finish_line, last_text, run_text}
 use Rattle.run_record.specs.Records.{IsNumber, IsSigned, IsValue, AreValues, IsCall, IsAction, IsEvent, AreEvents, IsRace, AreRaces, IsFinish, IsWithin}
-use Rattle.run_record.specs.Machine.{Symbol, Byte, Any, Number, Digits, Unsigned, Signed, Datum, Arguments, Act', ActOfS, Finish', Takes, Passes, Refuses, takes_if, due, word_due, numbered_due, access_due, call_due, get_due, end_due, bytes_due, entry_due, entries_due, race_due, races_due, program_due, history_due, report_due, last_due, all_due, bound, is_digit, is_more, behind_rule, number_rule, signed_rule, rule, run}
-use Rattle.run_record.specs.Steps.{Steps, counted, is_count, program_text, history_text, report_text}
-use Rattle.run_record.proofs.Numerals.{is_true, is_false, bound_small, number_runs}
+use Rattle.run_record.specs.Machine.{Symbol, Byte, Any, Number, Digits, Unsigned, Signed, Datum, Arguments, Act', ActOfS, Finish', Takes, Passes, Refuses, due, word_due, numbered_due, access_due, call_due, get_due, end_due, bytes_due, entry_due, entries_due, race_due, races_due, program_due, history_due, report_due, last_due, all_due, bound, is_digit, is_more, behind_rule, number_rule, signed_rule, rule}
+use Rattle.run_record.specs.Steps.{Steps, counted, is_count}
+use Rattle.run_record.proofs.Numerals.{is_true, is_false, number_runs}
 use Rattle.run_record.proofs.Chains.{after, onward, takes}
-use Rattle.run_record.proofs.Cursors.{ends_rule, bytes_taken, line_rule}
+use Rattle.run_record.proofs.Cursors.{ends_rule, line_rule}
 use Rattle.run_record.proofs.Exits.{passes, opens}
-use Rattle.run_record.proofs.Rows.{first_goes}
 use Rattle.run_record.proofs.Joined.{whole_is}
 
 moved : {s t : List Symbol} {xs ys m : List ℕ} → xs ≡ ys → Steps s ys t m → Steps s xs t m

@@ -9,12 +9,11 @@ use Rattle.fut_base.specs.declared.event.Action.TheVariants.{Reads, Writes, Spaw
 use Rattle.fut_base.specs.declared.record.Value.{Value}
 use Rattle.fut_base.specs.declared.record.Value.TheVariants.{Int, Fut}
 use Rattle.fut_base.specs.declared.record.Race.{Race}
-use Rattle.fut_base.specs.declared.record.Finish.{Finish}
 use Rattle.fut_base.specs.declared.record.Finish.TheVariants as finish
 use Rattle.run_record.specs.declared.digits.Kind.{Kind}
 use Rattle.run_record.specs.declared.digits.Kind.TheVariants as kind
-use Rattle.run_record.specs.RunText.{value_text, values_line, call_line, action_line, entry_line, entry_lines, race_line, race_lines, finish_line, run_text}
-use Rattle.run_record.specs.Records.{IsNumber, IsSigned, IsValue, AreValues, IsCall, IsAction, AreEvents, AreRaces, IsFinish, Begins}
+use Rattle.run_record.specs.RunText.{value_text, values_line, call_line, action_line, entry_lines, race_lines, run_text}
+use Rattle.run_record.specs.Records.{IsNumber, IsSigned, IsCall, IsAction, AreEvents, AreRaces, Begins}
 use Rattle.run_record.specs.Machine.{Symbol, Byte, Any, Number, Digits, Unsigned, Signed, Datum, Arguments, Act', ActOfS, Finish', Answer, Takes, Passes, Refuses, takes_if, due, word_due, numbered_due, access_due, call_due, get_due, end_due, bytes_due, entries_due, races_due, all_due, bound, is_digit, is_more, behind_rule, digits_rule, number_rule, unsigned_rule, signed_rule, datum_rule, arguments_rule, act_rule, act_of_s_rule, finish_rule, rule, by_answer, next, go_on, walk}
 use Rattle.run_record.proofs.Numerals.{bound_small, bound_large, decimal_more}
 use Rattle.run_record.proofs.Phrases.{IsCounted, Phrase, Phrases, split, word_phrase, split_word, split_number, bytes_phrase, entries_phrase, races_phrase, whole_phrase}

@@ -9,7 +9,7 @@ use Rattle.run_record.specs.declared.record.ReadFault.{ReadFault}
 use Rattle.run_record.specs.declared.record.ReadFault.TheVariants as fault
 use Rattle.run_record.specs.RunText.{run_text}
 use Rattle.run_record.specs.Records.{IsWithin, IsRunText, IsSomeRunText, IsFault}
-use Rattle.run_record.specs.Steps.{Reading}
+use Rattle.run_record.specs.Reading.{Reading}
 
 -- a text is the run text of one program, one list of entries, one list of races and one finish at most
 abbrev pub OneValue : Type 0

@@ -1,5 +1,5 @@
 -- The run text as a machine with a stack, one byte at a time.
-use Rattle.std.specs.Prelude.{ℕ, suc, zero, ◌+◌, ◌-◌, ◌*◌, Bool, List, [], ◌∷◌, ◌++◌, map, length, replicate, Option, Some, None, cond, nat_eq, nat_lt, nat_le, ◌&&◌, codes, decimal}
+use Rattle.std.specs.Prelude.{ℕ, suc, zero, ◌+◌, ◌-◌, ◌*◌, Bool, List, [], ◌∷◌, ◌++◌, map, length, Option, Some, None, cond, nat_eq, nat_lt, nat_le, ◌&&◌, codes, decimal}
 use Rattle.run_record.specs.declared.digits.Kind.{Kind}
 use Rattle.run_record.specs.declared.digits.Kind.TheVariants as kind
 

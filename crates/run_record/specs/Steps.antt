@@ -1,13 +1,12 @@
 -- What a part of the reader did.
 use denote.Ref.{Bor}
-use Rattle.std.specs.Prelude.{◌≡◌, ℕ, suc, ◌+◌, ◌<◌, ◌≤◌, ℤ, Bool, true, false, List, [], ◌∷◌, ◌++◌, length, Option, Some, None, Result, Ok, Err, decimal, codes}
+use Rattle.std.specs.Prelude.{◌≡◌, ℕ, ◌≤◌, Bool, true, false, List, [], ◌∷◌, ◌++◌, length, Option, Some, None, Result, Ok, Err, decimal, codes}
 use Rattle.std.specs.Fmt.{signed_decimal}
 use Rattle.fut_base.specs.Listed.{Listed}
 use Rattle.fut_base.specs.Events.{events_of}
 use Rattle.fut_base.specs.declared.event.Event.{Event}
 use Rattle.fut_base.specs.declared.record.Value.{Value}
 use Rattle.fut_base.specs.declared.record.Race.{Race}
-use Rattle.fut_base.specs.declared.record.Finish.{Finish}
 use Rattle.run_record.specs.declared.acts.Access.{Access}
 use Rattle.run_record.specs.declared.acts.Call.{Call}
 use Rattle.run_record.specs.declared.cursor.Stop.{Stop}
@@ -15,11 +14,9 @@ use Rattle.run_record.specs.declared.cursor.Stop.TheVariants as stop
 use Rattle.run_record.specs.declared.digits.Kind.{Kind}
 use Rattle.run_record.specs.declared.digits.Kind.TheVariants as kind
 use Rattle.run_record.specs.declared.record.RunText.{RunText}
-use Rattle.run_record.specs.declared.record.ReadFault.{ReadFault}
-use Rattle.run_record.specs.declared.record.ReadFault.TheVariants as fault
 use Rattle.run_record.specs.RunText.{call_line, entry_lines, race_lines, run_text}
-use Rattle.run_record.specs.Records.{IsNumber, IsSigned, AreValues, IsCall, AreEvents, AreRaces, IsFinish, IsWithin, IsRunText, IsFault}
-use Rattle.run_record.specs.Machine.{Symbol, Byte, Number, Digits, due, run, is_more, bound, bytes_due, entries_due, races_due}
+use Rattle.run_record.specs.Records.{IsNumber, IsSigned, AreValues, IsCall, AreEvents, AreRaces, IsWithin}
+use Rattle.run_record.specs.Machine.{Symbol, Number, Digits, due, run, is_more, bound, bytes_due, entries_due, races_due}
 
 abbrev pub front : List ℕ → Option ℕ
 front [] = None
@@ -175,10 +172,3 @@ whole_text r = run_text r.program.items (events_of r.history) r.races.items r.fi
 
 abbrev pub IsWhole : RunText → Type 0
 IsWhole r = IsWithin r.program.items (events_of r.history) r.races.items r.finish
-
--- the bytes are the run text of what was read, or none, with the count of bytes of the longest beginning of a run text, or
--- there was no memory
-abbrev pub Reading : List ℕ → Result RunText ReadFault → Type 0
-Reading bytes (Ok r) = IsRunText bytes r.program.items (events_of r.history) r.races.items r.finish
-Reading bytes (Err (fault.NotRun count)) = IsFault bytes count
-Reading bytes (Err fault.NoMemory) = Unit {0}

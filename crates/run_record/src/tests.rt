@@ -12,7 +12,11 @@ use std::test::Fail;
 const EACH: &str =
     "forder 1\nprogram 5\nab\ncd\nentries 9\n0 t0 s0 create 3 t1 s1 s2 f7 -5 0\n1 t1 s1 write 4294967295 -9223372036854775808\n2 t1 s1 end 9223372036854775807\n3 t0 s2 get f1 f12 s3\n4 t0 s3 spawn 0 t2 s4 s5\n5 t2 s4 read 0 10\n6 t2 s4 end 0\n7 t0 s5 sync s6\n8 t0 s6 end f3\nraces 2\nrace 0 1 4\nrace 10 20 4294967295\nfinish whole\nend\n";
 
-/// Where the program's bytes stand in it.
+/// A child writes, and its parent before it waits.
+const RACE: &str =
+    "forder 1\nprogram 110\ncells a[1];\ntask kid() int { a[0] = 1; return 0; }\ntask main() int { spawn kid(); a[0] = 2; sync; return 0; }\n\nentries 6\n0 t0 s0 spawn 0 t1 s1 s2\n1 t1 s1 write 0 1\n2 t1 s1 end 0\n3 t0 s2 write 0 2\n4 t0 s2 sync s3\n5 t0 s3 end 0\nraces 1\nrace 0 1 3\nfinish whole\nend\n";
+
+/// Where the program's bytes stand in the first.
 const PROGRAM_FROM: usize = 19;
 
 const PROGRAM_TO: usize = 24;
@@ -20,8 +24,14 @@ const PROGRAM_TO: usize = 24;
 /// No entries.
 const NONE: &str = "forder 1\nprogram 0\n\nentries 0\nraces 0\nfinish whole\nend\n";
 
+/// No text here is longer.
+const LONGEST: usize = 1024;
+
 /// Whether the bytes are read and written as they were.
 fn is_again(alloc: Global, bytes: &[u8]) -> Result<bool, Fail> {
+    if bytes.len() > LONGEST {
+        return Ok(false);
+    }
     let Ok(run) = read_run(alloc, bytes) else {
         return Ok(false);
     };
@@ -37,9 +47,12 @@ fn is_again(alloc: Global, bytes: &[u8]) -> Result<bool, Fail> {
 }
 
 /// Where the bytes cease to be a run text.
-fn fault(alloc: Global, bytes: &[u8]) -> Option<u32> {
+fn fault(alloc: Global, bytes: &[u8]) -> Option<usize> {
+    if bytes.len() > LONGEST {
+        return None;
+    }
     match read_run(alloc, bytes) {
-        Err(ReadFault::NotRun { byte }) => Some(byte),
+        Err(ReadFault::NotRun { byte }) => Some(byte as usize),
         _ => None,
     }
 }
@@ -49,6 +62,7 @@ fn texts_again(rt: HostRuntime) -> Result<(), Fail> {
     let alloc = rt.alloc();
     let texts = [
         EACH,
+        RACE,
         NONE,
         "forder 1\nprogram 1\n\n\nentries 1\n0 t0 s0 end 0\nraces 0\nfinish events 1\nend\n",
         "forder 1\nprogram 0\n\nentries 0\nraces 0\nfinish local 4294967295\nend\n",
@@ -68,17 +82,14 @@ fn cuts_and_wrong_bytes(rt: HostRuntime) -> Result<(), Fail> {
     let mut other = Vec::from_slice(alloc, bytes)?;
     for (place, byte) in bytes.iter().enumerate() {
         assert!(rt;
-            fault(alloc, &bytes[..place]) == Some(place as u32),
+            fault(alloc, &bytes[..place]) == Some(place),
             "cut at {place}"
         );
         other[place] = b'!';
         if place >= PROGRAM_FROM && place < PROGRAM_TO {
             assert!(rt; is_again(alloc, &other)?, "another program at {place}");
         } else {
-            assert!(rt;
-                fault(alloc, &other) == Some(place as u32),
-                "wrong at {place}"
-            );
+            assert!(rt; fault(alloc, &other) == Some(place), "wrong at {place}");
         }
         other[place] = *byte;
     }
@@ -141,9 +152,9 @@ fn faults(rt: HostRuntime) -> Result<(), Fail> {
     for text in texts {
         let mut bytes = Vec::new(alloc);
         let mut bar = None;
-        for byte in text.as_bytes() {
+        for (place, byte) in text.as_bytes().iter().enumerate() {
             if *byte == b'|' {
-                bar = Some(bytes.len() as u32);
+                bar = Some(place);
             } else {
                 bytes.push(*byte)?;
             }

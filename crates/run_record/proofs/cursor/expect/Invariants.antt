@@ -1,5 +1,5 @@
-use Rattle.std.proofs.Common.{◌≡◌, drop, ◌++◌, length, List, ℕ}
-use Rattle.run_record.specs.Machine.{due, run}
+use Rattle.std.proofs.Common.{◌≡◌, drop, ◌++◌, List, ℕ}
+use Rattle.run_record.specs.Machine.{due}
 use Rattle.run_record.specs.Steps.{Steps}
 use Rattle.run_record.proofs.cursor.expect.Given as goal
 

@@ -1,4 +1,4 @@
-use Rattle.std.proofs.Common.{◌≡◌, ◌+◌, ◌-◌, ◌*◌, ◌/◌, ◌<◌, ◌≤◌, ◌∷◌, ap, ◌∙◌, sym, arith}
+use Rattle.std.proofs.Common.{◌+◌, ◌-◌, ◌*◌, ◌<◌, ◌≤◌, ◌∷◌, ap, ◌∙◌, sym, arith}
 use Rattle.run_record.specs.Machine.{bound}
 use Rattle.run_record.proofs.Chains.{onward}
 use Rattle.run_record.proofs.Numerals.{bound_large}

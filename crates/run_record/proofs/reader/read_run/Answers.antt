@@ -1,4 +1,4 @@
-use Rattle.std.proofs.Common.{◌≡◌, ◌-◌, ◌≤◌, ℕ, List, length, Some, sym, ap, subst, ◌∙◌}
+use Rattle.std.proofs.Common.{ℕ, List, Some, sym, ap, ◌∙◌}
 use Rattle.run_record.specs.Machine.{all_due, run}
 use Rattle.run_record.proofs.Ends.{stopped_run, left_over, not_run, within}
 use Rattle.run_record.proofs.reader.read_run.Goals as goal

@@ -1,10 +1,9 @@
-use Rattle.std.proofs.Common.{◌≡◌, ℕ, zero, suc, ◌+◌, ◌-◌, ◌<◌, ◌≤◌, List, [], ◌∷◌, ◌++◌, length, map, refl, sym, ap, subst, ◌∙◌, append_assoc, append-nil, arith, codes, decimal, Some, nat_lt, true}
+use Rattle.std.proofs.Common.{◌≡◌, ℕ, ◌+◌, ◌-◌, ◌<◌, [], ◌∷◌, ◌++◌, length, refl, sym, ap, subst, ◌∙◌, append_assoc, append-nil, arith, Some, nat_lt, true}
 use Rattle.std.proofs.lemmas.Grind.{common_steps}
 use Rattle.std.proofs.lemmas.Bool.Decides.{nat_tests}
-use Rattle.std.proofs.lemmas.Result.{err_from_is_err_and}
 use Rattle.run_record.specs.RunText.{value_text, values_line}
 use Rattle.run_record.specs.Records.{AreValues}
-use Rattle.run_record.specs.Machine.{Symbol, Datum, Arguments, Takes, Refuses}
+use Rattle.run_record.specs.Machine.{Datum, Arguments, Takes, Refuses}
 use Rattle.run_record.specs.Steps.{Steps}
 use Rattle.run_record.proofs.Numerals.{is_true}
 use Rattle.run_record.proofs.Chains.{onward, takes}

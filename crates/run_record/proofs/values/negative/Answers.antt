@@ -1,6 +1,4 @@
-use Rattle.std.proofs.Common.{◌∷◌, ◌++◌, ◌≤◌, ◌-◌, ap, ◌∙◌, sym, subst, arith, ℤ, w64, to_z-of_z, ◌≡◌}
-use Rattle.std.specs.Fmt.{signed_decimal}
-use Rattle.run_record.specs.Records.{IsSigned}
+use Rattle.std.proofs.Common.{◌∷◌, ap, ◌∙◌, sym, arith}
 use Rattle.run_record.proofs.Cursors.{in_view}
 use Rattle.run_record.proofs.Exits.{minus_goes, minus_text, minus_within, back}
 use Rattle.run_record.proofs.values.negative.Goals as goal

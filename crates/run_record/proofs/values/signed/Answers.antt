@@ -1,4 +1,4 @@
-use Rattle.std.proofs.Common.{◌∷◌, ◌++◌, ◌≤◌, ◌-◌, ap, ◌∙◌, sym, subst, arith, refl}
+use Rattle.std.proofs.Common.{◌++◌, ap, ◌∙◌, sym, subst, arith, refl}
 use Rattle.std.proofs.lemmas.Result.{err_from_is_err_and}
 use Rattle.run_record.specs.declared.digits.Kind.TheVariants as kind
 use Rattle.run_record.proofs.Chains.{onward, onward_stops}

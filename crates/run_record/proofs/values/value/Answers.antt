@@ -1,4 +1,4 @@
-use Rattle.std.proofs.Common.{◌∷◌, ◌++◌, ◌≤◌, ◌-◌, ap, ◌∙◌, sym, subst, arith, refl}
+use Rattle.std.proofs.Common.{◌∙◌, sym}
 use Rattle.std.proofs.lemmas.Result.{err_from_is_err_and}
 use Rattle.run_record.proofs.Chains.{onward_stops}
 use Rattle.run_record.proofs.Cursors.{in_view}

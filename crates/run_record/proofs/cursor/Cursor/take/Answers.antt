@@ -1,4 +1,4 @@
-use Rattle.std.proofs.Common.{◌≡◌, ◌++◌, [], refl, sym, ap, ap₂, subst, ◌∙◌, List, ℕ, length, take-append-drop, arith, length-take}
+use Rattle.std.proofs.Common.{◌++◌, [], refl, sym, ap₂, subst, ◌∙◌, List, ℕ, take-append-drop}
 use Rattle.run_record.specs.Machine.{bytes_due}
 use Rattle.run_record.specs.declared.cursor.Stop.TheVariants as stop
 use Rattle.run_record.specs.Steps.{Steps, Stops}
