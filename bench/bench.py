@@ -5,16 +5,19 @@
 
 SMALLEST is the number of events of the smallest size of each family, 50,000 unless given. Each family is run at that size, at
 two, four and eight times that size, as far as the limits of the language allow. A time is the least of three runs, reading
-and printing included. It tests nothing: it prints a table, whose last columns are ratios within this one run."""
+and printing included; the memory is the greatest that a run held. The record of each run is replayed, too. It tests nothing:
+it prints a table, whose ratios are within this one run."""
 import os
 import subprocess
 import sys
+import tempfile
 import time
 
 TOP = os.path.dirname(os.path.dirname(os.path.abspath(__file__)))
 PROGRAM = os.path.join(TOP, "crates", "fut_main", "out", "fut_main")
 CELLS = 65536
 GRID = 64
+USAGE = 9
 
 
 def one_cell(events):
@@ -26,13 +29,13 @@ def one_cell(events):
 
 
 def children(events):
-    """Spawned children, each of which writes a cell of its own four times: six events a child."""
-    n = events // 6
+    """Spawned children, each of which writes a cell of its own six times: eight events a child."""
+    n = events // 8
     if n > CELLS:
         return None
     return (
         "cells a[%d];\n"
-        "task kid(i: int) int { a[i] = 1; a[i] = 2; a[i] = 3; a[i] = 4; return 0; }\n"
+        "task kid(i: int) int { a[i] = 1; a[i] = 2; a[i] = 3; a[i] = 4; a[i] = 5; a[i] = 6; return 0; }\n"
         "task main() int { var i: int; while i < %d { spawn kid(i); i = i + 1; } sync; return 0; }\n" % (n, n)
     )
 
@@ -49,18 +52,62 @@ def readers(events):
 
 
 def wavefront(events):
-    """A grid of futures, each of which gets those above it and on its left; about seven events a future."""
-    n = max(2, round((events / 7) ** 0.5))
+    """A grid of futures, each of which gets those above it and on its left, and then reads their cells and writes its own 31
+    times: 97 events a future, so that the largest grid that the language has, 64 by 64, makes 400,000."""
+    n = max(2, round((events / 97) ** 0.5))
     if n > GRID:
         return None
-    with open(os.path.join(TOP, "examples", "wavefront.forder"), encoding="utf-8") as text:
-        body = "".join(line for line in text if not line.startswith("//"))
-    return (
-        body.replace("cells a[9]", "cells a[%d]" % (n * n))
-        .replace("int[3]", "int[%d]" % n)
-        .replace("< 3", "< %d" % n)
-        .replace("* 3", "* %d" % n)
-    )
+    text = """cells a[NN];
+task corner() int { a[0] = 1; return 0; }
+task top(j: int, left: fut int) int {
+  var g: int = get left;
+  var k: int;
+  while k < 31 { g = a[j - 1]; a[j] = g + 1; k = k + 1; }
+  return 0;
+}
+task side(i: int, up: fut int) int {
+  var g: int = get up;
+  var k: int;
+  while k < 31 { g = a[(i - 1) * N]; a[i * N] = g + 1; k = k + 1; }
+  return 0;
+}
+task inner(i: int, j: int, up: fut int, left: fut int) int {
+  var p: int = get up;
+  var q: int = get left;
+  var k: int;
+  while k < 31 {
+    p = a[((i - 1) * N) + j];
+    q = a[(i * N) + (j - 1)];
+    a[(i * N) + j] = (p + q) + 1;
+    k = k + 1;
+  }
+  return 0;
+}
+task main() int {
+  var h: fut int = create corner();
+  var row: fut int[N] = h;
+  var up: fut int = h;
+  var i: int = 1;
+  var j: int = 1;
+  while j < N { h = create top(j, h); row[j] = h; j = j + 1; }
+  while i < N {
+    up = row[0];
+    h = create side(i, up);
+    row[0] = h;
+    j = 1;
+    while j < N {
+      up = row[j];
+      h = create inner(i, j, up, h);
+      row[j] = h;
+      j = j + 1;
+    }
+    i = i + 1;
+  }
+  var x: int = get h;
+  return x;
+}
+"""
+    return text.replace("NN", str(n * n)).replace("N", str(n))
 
 
 def tree(events):
@@ -75,41 +122,56 @@ def tree(events):
 FAMILIES = [one_cell, children, wavefront, readers, tree]
 
 
-def run(text):
-    """The events of the run of a text, the least of three times, and the greatest memory in megabytes."""
-    times = []
-    for _ in range(3):
+def once(words, given):
+    """One run of the program: its seconds, the greatest memory in megabytes, its status and what it wrote."""
+    with tempfile.TemporaryFile() as source, tempfile.TemporaryFile() as sink:
+        source.write(given)
+        source.seek(0)
         start = time.monotonic()
-        done = subprocess.run(
-            [PROGRAM, "serial", "--events", "1000000"], input=text.encode(), stdout=subprocess.PIPE, check=False
-        )
-        times.append(time.monotonic() - start)
-    record = done.stdout
+        child = subprocess.Popen([PROGRAM] + words, stdin=source, stdout=sink)
+        _, status, usage = os.wait4(child.pid, 0)
+        seconds = time.monotonic() - start
+        child.returncode = os.waitstatus_to_exitcode(status)
+        sink.seek(0)
+        return seconds, usage.ru_maxrss / 1024, child.returncode, sink.read()
+
+
+def run(text):
+    """The events of the run of a text, the least of three times, the greatest memory in megabytes, and the least of three
+    times of the replay of its record, where the program has that command."""
+    runs = [once(["serial", "--events", "1000000"], text.encode()) for _ in range(3)]
+    record = runs[0][3]
+    if runs[0][2] not in (0, 1):
+        sys.exit("a run ended with status %d" % runs[0][2])
     at = record.rfind(b"\nentries ") + len(b"\nentries ")
-    if done.returncode not in (0, 1):
-        sys.exit("a run ended with status %d" % done.returncode)
-    return int(record[at : record.index(b"\n", at)]), min(times)
+    events = int(record[at : record.index(b"\n", at)])
+    again = [once(["replay"], record) for _ in range(3)]
+    replay = None
+    if again[0][2] != USAGE:
+        if again[0][2] != runs[0][2]:
+            sys.exit("a replay ended with status %d" % again[0][2])
+        replay = min(seconds for seconds, _, _, _ in again)
+    return events, min(seconds for seconds, _, _, _ in runs), max(memory for _, memory, _, _ in runs), replay
 
 
 def main():
     smallest = int(sys.argv[1]) if len(sys.argv) > 1 else 50000
-    print("| family | events | seconds | events a second | events, times those before | time, times that before |")
-    print("|---|---|---|---|---|---|")
+    print("| family | events | seconds | events a second | events, times those before | seconds, times those before | megabytes | replay, times `serial` |")
+    print("|---|---|---|---|---|---|---|---|")
     for family in FAMILIES:
         before = None
-        sizes = [smallest, 2 * smallest, 4 * smallest, 8 * smallest]
-        if family is wavefront:
-            sizes = [3500, 7000, 14000, 28000]
-        for size in sizes:
+        for size in [smallest, 2 * smallest, 4 * smallest, 8 * smallest]:
             text = family(size)
             if text is None:
                 continue
-            events, seconds = run(text)
+            events, seconds, memory, replay = run(text)
             grown = "" if before is None else "%.2f" % (events / before[0])
             slower = "" if before is None else "%.2f" % (seconds / before[1])
+            checked = "" if replay is None else "%.2f" % (replay / seconds)
             print(
-                "| %s | %d | %.2f | %d | %s | %s |"
-                % (family.__name__.replace("_", " "), events, seconds, events / seconds, grown, slower)
+                "| %s | %d | %.2f | %d | %s | %s | %.0f | %s |"
+                % (family.__name__.replace("_", " "), events, seconds, events / seconds, grown, slower, memory, checked),
+                flush=True,
             )
             before = (events, seconds)
 
