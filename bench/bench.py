@@ -4,14 +4,13 @@
     python3 bench/bench.py [SMALLEST]
 
 SMALLEST is the number of events of the smallest size of each family, 50,000 unless given. Each family is run at that size, at
-two, four and eight times that size, as far as the limits of the language allow. A time is the least of three runs, reading
-and printing included; the memory is the greatest that a run held. The record of each run is replayed, too. It tests nothing:
+two, four and eight times that size, as far as the limits of the language allow. A time is the processor time of the whole
+program, reading and printing included, the least of three runs; the memory is the greatest that a run held. The record of each run is replayed, too. It tests nothing:
 it prints a table, whose ratios are within this one run."""
 import os
 import subprocess
 import sys
 import tempfile
-import time
 
 TOP = os.path.dirname(os.path.dirname(os.path.abspath(__file__)))
 PROGRAM = os.path.join(TOP, "crates", "fut_main", "out", "fut_main")
@@ -123,17 +122,15 @@ FAMILIES = [one_cell, children, wavefront, readers, tree]
 
 
 def once(words, given):
-    """One run of the program: its seconds, the greatest memory in megabytes, its status and what it wrote."""
+    """One run of the program: its processor time in seconds, the greatest memory in megabytes, its status and what it wrote."""
     with tempfile.TemporaryFile() as source, tempfile.TemporaryFile() as sink:
         source.write(given)
         source.seek(0)
-        start = time.monotonic()
         child = subprocess.Popen([PROGRAM] + words, stdin=source, stdout=sink)
         _, status, usage = os.wait4(child.pid, 0)
-        seconds = time.monotonic() - start
         child.returncode = os.waitstatus_to_exitcode(status)
         sink.seek(0)
-        return seconds, usage.ru_maxrss / 1024, child.returncode, sink.read()
+        return usage.ru_utime + usage.ru_stime, usage.ru_maxrss / 1024, child.returncode, sink.read()
 
 
 def run(text):
