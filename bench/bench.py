@@ -121,34 +121,38 @@ def tree(events):
 FAMILIES = [one_cell, children, wavefront, readers, tree]
 
 
-def once(words, given):
-    """One run of the program: its processor time in seconds, the greatest memory in megabytes, its status and what it wrote."""
-    with tempfile.TemporaryFile() as source, tempfile.TemporaryFile() as sink:
-        source.write(given)
-        source.seek(0)
-        child = subprocess.Popen([PROGRAM] + words, stdin=source, stdout=sink)
-        _, status, usage = os.wait4(child.pid, 0)
-        child.returncode = os.waitstatus_to_exitcode(status)
-        sink.seek(0)
-        return usage.ru_utime + usage.ru_stime, usage.ru_maxrss / 1024, child.returncode, sink.read()
+def once(words, source, sink):
+    """One run of the program from a file to a file: its processor time in seconds, the greatest memory in megabytes, and its
+    status. This script keeps no record in its own memory, which would be counted."""
+    source.seek(0)
+    sink.seek(0)
+    sink.truncate()
+    child = subprocess.Popen([PROGRAM] + words, stdin=source, stdout=sink)
+    _, status, usage = os.wait4(child.pid, 0)
+    child.returncode = os.waitstatus_to_exitcode(status)
+    return usage.ru_utime + usage.ru_stime, usage.ru_maxrss / 1024, child.returncode
 
 
 def run(text):
     """The events of the run of a text, the least of three times, the greatest memory in megabytes, and the least of three
     times of the replay of its record, where the program has that command."""
-    runs = [once(["serial", "--events", "1000000"], text.encode()) for _ in range(3)]
-    record = runs[0][3]
-    if runs[0][2] not in (0, 1):
-        sys.exit("a run ended with status %d" % runs[0][2])
-    at = record.rfind(b"\nentries ") + len(b"\nentries ")
-    events = int(record[at : record.index(b"\n", at)])
-    again = [once(["replay"], record) for _ in range(3)]
+    with tempfile.TemporaryFile() as program, tempfile.TemporaryFile() as record, tempfile.TemporaryFile() as answer:
+        program.write(text.encode())
+        program.flush()
+        runs = [once(["serial", "--events", "1000000"], program, record) for _ in range(3)]
+        if runs[0][2] not in (0, 1):
+            sys.exit("a run ended with status %d" % runs[0][2])
+        record.seek(0)
+        head = record.read(len(text) + 100)
+        at = head.rfind(b"\nentries ") + len(b"\nentries ")
+        events = int(head[at : head.index(b"\n", at)])
+        again = [once(["replay"], record, answer) for _ in range(3)]
     replay = None
     if again[0][2] != USAGE:
         if again[0][2] != runs[0][2]:
             sys.exit("a replay ended with status %d" % again[0][2])
-        replay = min(seconds for seconds, _, _, _ in again)
-    return events, min(seconds for seconds, _, _, _ in runs), max(memory for _, memory, _, _ in runs), replay
+        replay = min(seconds for seconds, _, _ in again)
+    return events, min(seconds for seconds, _, _ in runs), max(memory for _, memory, _ in runs), replay
 
 
 def main():
