@@ -1,5 +1,5 @@
 -- The strands of a rising list that are left, found one after the other.
-use Rattle.std.proofs.Common.{◌≡◌, ◌≢◌, ℕ, ◌+◌, ◌<◌, ◌≤◌, Bool, true, false, not, true≢false, List, [], ◌∷◌, ◌++◌, length, get_or, take, drop, inl, inr, subst, sym, refl, ◌∙◌}
+use Rattle.std.proofs.Common.{arith, ap, ◌≡◌, ◌≢◌, ℕ, ◌+◌, ◌<◌, ◌≤◌, Bool, true, false, not, true≢false, List, [], ◌∷◌, ◌++◌, length, get_or, take, drop, inl, inr, subst, sym, refl, ◌∙◌}
 use Rattle.std.specs.Prelude.{◌↔◌}
 use Rattle.std.proofs.lemmas.List.{append_assoc, append-nil, drop_more, drop_all, take_all}
 use Rattle.order_list.specs.Sides.{Lists}
@@ -8,7 +8,7 @@ use Rattle.strand_laws.proofs.Places.{among_or, among_left, among_right}
 use Rattle.strand_tree.specs.declared.strand.Strand.{Strand}
 use Rattle.reach_table.specs.Sorted.{IsRising}
 use Rattle.reach_table.specs.Merging.{precedes_in, IsGreatest, PrecedesOne}
-use Rattle.reach_table.proofs.Members.{in_more}
+use Rattle.reach_table.proofs.Members.{in_take_or_drop, in_more, at_place}
 use Rattle.reach_table.proofs.Rising.{rising_out}
 use Rattle.reach_table.proofs.Greatest.{false_if}
 
@@ -22,6 +22,22 @@ none_more lists at ws i d lt none off p =
           let Q : Strand → Type 0 = λ w. precedes_in lists at.number w.number ≡ true in
           off (subst P (sym e) p.2) (subst Q (sym e) p.3))
     ]
+
+-- a strand that is not of future `own` is greatest where those before it are of lower futures, and those behind it of higher ones
+pub alone_greatest : (lists : Lists) (own : ℕ) (ws : List Strand) (i : ℕ) (d : Strand) → i < length ws → (get_or ws i d).future ≢ own → ((w : Strand) → Among w (take i ws) → w.future < (get_or ws i d).future) → ((w : Strand) → Among w (drop (i + 1) ws) → (get_or ws i d).future < w.future) → IsGreatest lists own ws (get_or ws i d)
+alone_greatest lists own ws i d lt ne before behind =
+    let at = get_or ws i d in
+    record {
+      among = at_place ws i d lt;
+      foreign = ne;
+      greatest = λ x a e other. elim (in_take_or_drop (i + 1) ws x a) [
+        | inr r ↦ (let k = behind x r in absurd (omega (arith, k, e)))
+        | inl l ↦ elim (in_more ws i d lt x l) [
+          | inl t ↦ (let k = before x t in absurd (omega (arith, k, e)))
+          | inr s ↦ absurd (other (ap (λ (z : Strand). z.number) (sym s)))
+        ]
+      ];
+    }
 
 -- a strand that is not of future `own` is greatest where it precedes none of its future
 pub greatest_if : (lists : Lists) (own : ℕ) (at : Strand) (ws group : List Strand) (answer : Bool) → Among at ws → at.future ≢ own → ((w : Strand) → Among w group ↔ (Among w ws × (w.future ≡ at.future))) → (answer ≡ true) ↔ PrecedesOne lists at group → (not answer ≡ true) ↔ IsGreatest lists own ws at

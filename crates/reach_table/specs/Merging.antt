@@ -1,5 +1,5 @@
 -- What is left where tables are put together.
-use Rattle.std.specs.Prelude.{◌≡◌, ◌≢◌, ℕ, ◌<◌, Bool, true, false, ◌&&◌, ◌↔◌, List, [], ◌∷◌, ◌++◌, map, reverse, flat_map, Option, Some, None}
+use Rattle.std.specs.Prelude.{◌≡◌, ◌≢◌, ℕ, ◌<◌, Bool, true, false, ◌&&◌, ◌↔◌, List, [], ◌∷◌, ◌++◌, map, reverse, flat_map, get_or, Option, Some, None}
 use Rattle.order_list.specs.Ordered.{stands_before}
 use Rattle.order_list.specs.Sides.{Lists}
 use Rattle.fut_base.specs.declared.event.Event.{Event}
@@ -21,6 +21,10 @@ listed (Some v) = v ∷ []
 -- the strands of two tables, and one more
 abbrev pub together : List Strand → List Strand → Option Strand → List Strand
 together one other last = one ++ other ++ listed last
+
+-- the strand at a place
+abbrev pub strand_at : List Strand → ℕ → Strand
+strand_at ws place = get_or ws place (record { number = 0; future = 0 })
 
 -- one of these strands, which is not of future `own` and does not precede another of these of its own future
 pub record IsGreatest (lists : Lists) (own : ℕ) (ws : List Strand) (w : Strand) : Type 0 where

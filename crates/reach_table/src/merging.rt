@@ -1,10 +1,10 @@
 //! Two tables put together.
-ghost use Rattle.std.specs.Prelude.{◌≡◌, ℕ, ◌<◌, ◌≤◌, ◌++◌, ◌↔◌, ◌⊎◌, true, List, [], ◌∷◌, length, IsTrue, IfOk};
+ghost use Rattle.std.specs.Prelude.{◌≡◌, ℕ, ◌<◌, ◌≤◌, ◌++◌, ◌↔◌, ◌⊎◌, ◌+◌, true, List, [], ◌∷◌, length, take, drop, IsTrue, IfOk};
 ghost use Rattle.fut_base.specs.Dag.{Among};
 ghost use Rattle.strand_tree.specs.declared.strand.Strand.{Strand};
 ghost use Rattle.reach_table.specs.Sorted.{IsBelow, IsRising};
 ghost use Rattle.reach_table.specs.Telling.{AllKnown};
-ghost use Rattle.reach_table.specs.Merging.{precedes_in, together, PrecedesOne, IsGreatest};
+ghost use Rattle.reach_table.specs.Merging.{precedes_in, together, strand_at, PrecedesOne, IsGreatest};
 
 use crate::group::of_future;
 use fut_base::list::NoMemory;
@@ -89,15 +89,38 @@ fn precedes_one(lists: &Still, at: Strand, strands: &[Strand]) -> bool
     false
 }
 
-// Whether one of these strands is not of future `own` and precedes no other one of its future.
-fn is_greatest(lists: &Still, own: u32, at: Strand, strands: &[Strand]) -> bool
-    requires at_among { Among at strands.now }
+// Whether the strands before a place are of lower futures than the one there.
+fn is_first_of_future(strands: &[Strand], place: usize) -> bool
+    requires within { place < length strands.now }
+    requires rising { IsRising strands.now }
+    ensures { result ≡ true → (w : Strand) → Among w (take place strands.now) → w.future < (strand_at strands.now place).future }
+{
+    place == 0 || strands[place - 1].future < strands[place].future
+}
+
+// Whether the strands behind a place are of higher futures than the one there.
+fn is_last_of_future(strands: &[Strand], place: usize) -> bool
+    requires within { place < length strands.now }
+    requires rising { IsRising strands.now }
+    ensures { result ≡ true → (w : Strand) → Among w (drop (place + 1) strands.now) → (strand_at strands.now place).future < w.future }
+{
+    place + 1 == strands.len() || strands[place].future < strands[place + 1].future
+}
+
+// Whether the strand at a place is not of future `own` and precedes no other one of its future. Most are alone of their
+// future, which their neighbours tell.
+fn is_greatest(lists: &Still, own: u32, place: usize, strands: &[Strand]) -> bool
+    requires within { place < length strands.now }
     requires rising { IsRising strands.now }
     requires strands_in { AllKnown (length lists.now.english.order) strands.now }
-    ensures { IsTrue result ↔ IsGreatest lists.now own strands.now at }
+    ensures { IsTrue result ↔ IsGreatest lists.now own strands.now (strand_at strands.now place) }
 {
+    let at = strands[place];
     if at.future == own {
         return false;
+    }
+    if is_first_of_future(strands, place) && is_last_of_future(strands, place) {
+        return true;
     }
     !precedes_one(lists, at, of_future(strands, at.future))
 }
@@ -115,9 +138,9 @@ pub fn greatest(
     ensures strands { IfOk result (λ left. (w : Strand) → Among w left.items ↔ IsGreatest lists.now own strands.now w) }
 {
     let mut left = Vec::new(alloc);
-    for w in strands {
-        if is_greatest(lists, own, *w, strands) {
-            left.push(*w)?;
+    for place in 0..strands.len() {
+        if is_greatest(lists, own, place, strands) {
+            left.push(strands[place])?;
         }
     }
     Ok(left)

@@ -1,4 +1,4 @@
-use Rattle.std.proofs.Common.{◌≡◌, ℕ, Bool, true, true≢false, [], ◌∷◌, ◌⊎◌, inl, inr, subst, sym, refl, arith}
+use Rattle.std.proofs.Common.{◌≡◌, ℕ, true, true≢false, [], ◌∷◌, ◌⊎◌, inl, inr, subst, sym, refl, arith}
 use Rattle.fut_base.specs.Dag.{Among}
 use Rattle.fut_base.specs.Orders.{precedes_past}
 use Rattle.fut_base.specs.Sound.{home_of}
