@@ -20,9 +20,11 @@ use Rattle.task_types.proofs.Running.{steps_fit, children_fit}
 use Rattle.task_code.specs.Flat.{Compiled, IsCodeOf}
 use Rattle.task_code.specs.Tasks.{IsStill}
 use Rattle.run_replay.specs.declared.line.Line.{Line}
+use Rattle.access_shards.specs.Histories.{IsInStep}
 use Rattle.run_laws.specs.Ready.{ready_by, ready_past, ready_of}
-use Rattle.run_replay.specs.Replays.{ReplayNow, IsLineOf, AreLinesOf, IsReplayOf, AreBegun, StillAt, Takes, CanAct, creates_by}
+use Rattle.run_replay.specs.Replays.{ReplayNow, IsLineOf, AreLinesOf, IsReplayOf, AreBegun, StillAt, Takes, Finds, CanAct, IsLegalAct, creates_by}
 use Rattle.run_replay.proofs.Lining.{task_of_line, set_line, add_lines, set_length, some_same}
+use Rattle.run_replay.proofs.Finding.{in_step_further}
 
 not_some : {X : Type 0} (o : Option X) → is_some o ≡ false → o ≡ None
 not_some None h = refl
@@ -137,8 +139,22 @@ takes_step P code h m old new t a e r x k st present runs can =
         ready = k.ready ∙ (ap (ready_by t a) x.ready ∙ sym (ready_further h own));
         few = omega (arith, more, size, few, one);
         made = omega (arith, made, two, one, strands);
+        found = subst (λ (d : Event). Finds old.finder new.finder d) is k.finds h x.found (in_step_further P h m n own x.leads step x.found.steps);
       },
     )
+  where
+    at : ℕ → ℕ → Action → Event
+    at t s a = record { task = t; strand = s; action = a }
+
+-- the finder of a run may take the event of a task that may act so
+pub may_find : (code : Compiled) (now : ReplayNow) (t : ℕ) (a : Action) (x : Line) (e : Event) (k : IsLegalAct code now t a) → slice_get now.lines t ≡ Some x → e ≡ record { task = t; strand = x.strand; action = a } → IsInStep (k.history ++ e ∷ [])
+may_find code now t a x e k present is =
+    let found = task_of_line k.program code now.lines k.machine.tasks t x k.replay.lines present in
+    let same : found.0 ≡ k.task = some_same found.0 k.task (sym found.1 ∙ k.running.0) in
+    let strand : x.strand ≡ k.task.strand = found.2.strand ∙ ap (λ (r : Running). r.strand) same in
+    let step = can_step k.program k.machine t k.task a k.running.0 k.running.1 k.can in
+    let own = in_step_further k.program k.history k.machine _ _ k.replay.leads step k.replay.found.steps in
+    subst (λ (d : Event). IsInStep (k.history ++ d ∷ [])) (sym (is ∙ ap (λ s. at t s a) strand)) own
   where
     at : ℕ → ℕ → Action → Event
     at t s a = record { task = t; strand = s; action = a }

@@ -9,3 +9,5 @@ pub mod Answering
 pub mod Serially
 pub mod Sameness
 pub mod Only
+pub mod Finding
+pub mod Stepping

@@ -7,7 +7,7 @@ use Rattle.task_machine.specs.Machine.{Running}
 use Rattle.task_code.specs.Flat.{Compiled, IsCodeOf}
 use Rattle.task_code.specs.Tasks.{TaskNow}
 use Rattle.run_replay.specs.declared.line.Line.{Line}
-use Rattle.run_replay.specs.Replays.{ReplayNow, IsLineOf, AreLinesOf, KeepsTask, KeepsLine, KeepsLineAt, StandsStill}
+use Rattle.run_replay.specs.Replays.{IsLineOf, AreLinesOf, KeepsTask, KeepsLine, KeepsLineAt}
 
 module _ (P : tree.Program) (code : Compiled) where
   -- the task of a line
@@ -97,26 +97,6 @@ kept_lines P code xs ys rs t typed of k are =
 
 pub kept_length : (code : Compiled) (xs ys : List Line) (t : ℕ) → KeepsLineAt code xs ys t → length ys ≡ length xs
 kept_length code xs ys t k = ap length k.is ∙ set_length xs t k.after
-
--- the same run with other lines
-abbrev pub with_lines : ReplayNow → List Line → ReplayNow
-with_lines r lines = record { lines = lines; cells = r.cells; ready = r.ready; entries = r.entries; creates = r.creates; strands = r.strands }
-
-pub stands_still : (code : Compiled) (old : ReplayNow) (lines : List Line) (t : ℕ) → KeepsLineAt code old.lines lines t → StandsStill code old (with_lines old lines)
-stands_still code old lines t k P h m x =
-    record {
-      typed = x.typed;
-      code_is = x.code_is;
-      leads = x.leads;
-      lines = kept_lines P code old.lines lines m.tasks t x.typed x.code_is k x.lines;
-      cells = x.cells;
-      strands = x.strands;
-      entries = x.entries;
-      creates = x.creates;
-      ready = x.ready;
-      few = (let e = kept_length code old.lines lines t k in let f = x.few in omega (arith, e, f));
-      made = x.made;
-    }
 
 -- a place of a list has an item
 pub item_at : {X : Type 0} (xs : List X) (i : ℕ) → i < length xs → (x : X) × (slice_get xs i ≡ Some x)

@@ -1,5 +1,5 @@
 -- The serial run goes on, or stops.
-use Rattle.std.proofs.Common.{◌≡◌, ℕ, zero, suc, ◌+◌, ◌<◌, ◌≤◌, Bool, true, false, List, [], ◌∷◌, ◌++◌, refl, sym, ap, ◌∙◌, subst, arith, inl, inr}
+use Rattle.std.proofs.Common.{◌≡◌, ℕ, zero, suc, ◌+◌, ◌<◌, ◌≤◌, Bool, true, false, List, [], ◌∷◌, ◌++◌, refl, sym, ap, ◌∙◌, subst, arith, ◌⊎◌, inl, inr}
 use Rattle.std.specs.Prelude.{Option, Some, IsSome, is_some, slice_get, reverse, map, ℤ}
 use Rattle.std.proofs.lemmas.List.{reverse-append, map-append}
 use Rattle.std.proofs.lemmas.Bool.{false≢true}
@@ -13,14 +13,15 @@ use Rattle.fut_base.specs.Events.{event_of}
 use Rattle.fut_syntax.specs.Trees as tree
 use Rattle.fut_check.specs.Items.{IsWellTyped}
 use Rattle.task_machine.specs.Machine.{Machine, Running, opening, Leads, EachEnded, IsWhole, IsRunning, creates, create_count, FinishHolds}
-use Rattle.task_machine.proofs.Leading.{leads_to_one}
+use Rattle.task_machine.proofs.Leading.{leads_to_one, split}
 use Rattle.task_machine.proofs.Stepping.{stands_or_goes_on}
 use Rattle.task_code.specs.Flat.{Compiled}
 use Rattle.run_laws.specs.Laws.{IsFirst}
-use Rattle.run_laws.proofs.Ready.{first_may_go_on}
+use Rattle.run_laws.specs.Ready.{ready_of}
+use Rattle.run_laws.proofs.Ready.{first_may_go_on, none_is_ready, ready_is_first}
 use Rattle.run_replay.specs.Replays.{ReplayNow, IsReplayOf, creates_by}
-use Rattle.run_replay.specs.Next.{IsWaiting, IsSpent, IsMade}
-use Rattle.run_replay.specs.Serials.{IsSerialPast, IsSerial, Stops, IsSerialRun, Runs}
+use Rattle.run_replay.specs.Next.{IsWaiting, IsSpent, IsMade, MayGoOn}
+use Rattle.run_replay.specs.Serials.{IsSerialPast, IsSerial, Stops, IsNotStuck, IsNeverStuck, IsSerialRun, Runs}
 use Rattle.run_replay.proofs.Acting.{creates_further, longer}
 use Rattle.run_replay.proofs.Lining.{some_same}
 
@@ -103,6 +104,20 @@ stays P code limits h g old new x f same k s =
 pub event_added : (hs rs ns : List Entry) (e : Entry) → rs ≡ hs → ns ≡ rs ++ e ∷ [] → map event_of ns ≡ map event_of hs ++ event_of e ∷ []
 event_added hs rs ns e kept added =
     ap (map event_of) (added ∙ ap (λ (l : List Entry). l ++ e ∷ []) kept) ∙ map-append event_of hs (e ∷ [])
+
+-- ---- no history is stuck
+
+not_stuck : (P : tree.Program) (h : List Event) (m : Machine) → IsWellTyped P → Leads P (opening P) h m → IsNotStuck P h
+not_stuck P h m typed leads = (m, leads, by (ready_of h) refl)
+  where
+    by : (ts : List ℕ) → ready_of h ≡ ts → EachEnded m.tasks ⊎ ((t : ℕ) × MayGoOn P m t)
+    by [] is = inl ((none_is_ready P h m leads).0 is)
+    by (t ∷ ts) is = (let first = ready_is_first P h m t ts leads is in inr (t, (first.0, first.1.running, first_may_go_on P h m t first.0 typed leads first.1)))
+
+pub never_stuck : (P : tree.Program) (h : List Event) (m : Machine) → IsWellTyped P → Leads P (opening P) h m → IsNeverStuck P h
+never_stuck P h m typed leads before later is =
+    let parts = split P (opening P) before later m (subst (λ l. Leads P (opening P) l m) is leads) in
+    not_stuck P before parts.0 typed parts.1
 
 pub serial_as : (P : tree.Program) (limits : Limits) (h g : List Event) (f k : Finish) (cells ds : List ℤ) → g ≡ h → k ≡ f → ds ≡ cells → IsSerialRun P limits h f cells → IsSerialRun P limits g k ds
 serial_as P limits h g f k cells ds a b e x =

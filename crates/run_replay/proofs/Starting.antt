@@ -9,21 +9,25 @@ use Rattle.fut_base.specs.Sound.{strands_by, value_by}
 use Rattle.fut_syntax.specs.Trees as tree
 use Rattle.fut_check.specs.Items.{IsWellTyped}
 use Rattle.task_machine.specs.Texts.{main_of}
-use Rattle.task_machine.specs.Machine.{opening, begins, strand_after, cells_after, creates}
+use Rattle.task_machine.specs.Machine.{Machine, Running, opening, begins, strand_after, cells_after, creates}
 use Rattle.task_types.proofs.Mains.{main_fits}
 use Rattle.task_types.specs.Typed.{any_future}
 use Rattle.task_code.specs.Flat.{Compiled, IsCodeOf}
 use Rattle.task_code.specs.Tasks.{IsStill}
+use Rattle.race_finder.specs.declared.finder.Finder.{Finder}
+use Rattle.race_finder.specs.Finding.{IsFinderOf}
+use Rattle.run_laws.specs.Laws.{IsFirst}
 use Rattle.run_laws.specs.Ready.{ready_by}
+use Rattle.run_laws.proofs.Ready.{ready_is_first}
 use Rattle.run_replay.specs.declared.line.Line.{Line}
-use Rattle.run_replay.specs.Replays.{ReplayNow, IsLineOf, AreLinesOf, IsReplayOf, KeepsLine, KeepsLineAt, StandsStill, ActsAs, ActsAt, AreBegun, Begins, StillAt, Takes, creates_by}
+use Rattle.run_replay.specs.Replays.{ReplayNow, IsLineOf, AreLinesOf, IsReplayOf, KeepsLine, KeepsLineAt, StandsStill, ActsAs, ActsAt, AreBegun, Begins, StillAt, Takes, Finds, FindsStill, creates_by}
 use Rattle.run_replay.proofs.Lining.{kept_lines, kept_length, set_twice, get_set_here, some_same}
 use Rattle.task_machine.proofs.Places.{get_below}
 
-pub begins_run : (P : tree.Program) (code : Compiled) (main : Line) (now : ReplayNow) → IsWellTyped P → IsCodeOf P code → Begins code code.main [] 0 0 main
+pub begins_run : (P : tree.Program) (code : Compiled) (main : Line) (now : ReplayNow) → IsWellTyped P → IsCodeOf P code → Begins code code.main [] 0 0 main → IsFinderOf [] now.finder
     → now.lines ≡ main ∷ [] → now.cells ≡ replicate code.cells (pos 0) → now.ready ≡ 0 ∷ [] → now.entries ≡ 0 → now.creates ≡ 0 → now.strands ≡ 1
     → IsReplayOf P code [] now (opening P)
-begins_run P code main now typed of b lines cells ready entries creates strands =
+begins_run P code main now typed of b found lines cells ready entries creates strands =
     let size = ap length lines in
     let first : IsLineOf P code main (begins P (main_of P) [] 0 0) =
     subst (λ n. IsLineOf P code main (begins P n [] 0 0)) of.main
@@ -49,11 +53,12 @@ begins_run P code main now typed of b lines cells ready entries creates strands 
       ready = ap reverse ready;
       few = omega (arith, size, entries);
       made = omega (arith, strands, entries);
+      found = found;
     }
 
 -- ---- the first task
 
-pub last_first : (xs : List ℕ) (i t : ℕ) → i + 1 ≡ length xs → slice_get xs i ≡ Some t → (ts : List ℕ) × (reverse xs ≡ t ∷ ts)
+last_first : (xs : List ℕ) (i t : ℕ) → i + 1 ≡ length xs → slice_get xs i ≡ Some t → (ts : List ℕ) × (reverse xs ≡ t ∷ ts)
 last_first [] i t e h = cc
 last_first (x ∷ []) zero t e h = ([], (let same : x ≡ t = some_same x t h in ap (λ z. z ∷ []) same))
 last_first (x ∷ []) (suc i) t e h = absurd (omega (arith, e))
@@ -64,8 +69,8 @@ last_first (x ∷ y ∷ ys) (suc i) t e h =
 
 -- ---- a run that stands still
 
-pub still_by : (code : Compiled) (old new : ReplayNow) (t : ℕ) → KeepsLineAt code old.lines new.lines t → new.cells ≡ old.cells → new.ready ≡ old.ready → new.entries ≡ old.entries → new.creates ≡ old.creates → new.strands ≡ old.strands → StandsStill code old new
-still_by code old new t k cells ready entries creates strands P h m x =
+pub still_by : (code : Compiled) (old new : ReplayNow) (t : ℕ) → KeepsLineAt code old.lines new.lines t → new.cells ≡ old.cells → new.ready ≡ old.ready → new.entries ≡ old.entries → new.creates ≡ old.creates → new.strands ≡ old.strands → FindsStill old.finder new.finder → StandsStill code old new
+still_by code old new t k cells ready entries creates strands finds P h m x =
     let size = kept_length code old.lines new.lines t k in
     let few = x.few in
     let made = x.made in
@@ -81,6 +86,7 @@ still_by code old new t k cells ready entries creates strands P h m x =
       ready = ap reverse ready ∙ x.ready;
       few = omega (arith, size, few, entries);
       made = omega (arith, made, strands, entries);
+      found = finds h x.found;
     }
 
 -- ---- a run that takes an action
@@ -109,8 +115,8 @@ at t s a = record { task = t; strand = s; action = a }
 pub takes_by : (code : Compiled) (old new : ReplayNow) (mid : List Line) (t : ℕ) (a : Action) (e : Event) (begun : List Line) (x : Line)
     → slice_get old.lines t ≡ Some x → KeepsLineAt code old.lines mid t → StillAt code mid t → ActsAt code mid new.lines t a begun → AreBegun code x.future a begun → e ≡ record { task = t; strand = x.strand; action = a }
     → new.cells ≡ cells_after a old.cells → new.strands ≡ old.strands + strands_by a → new.entries ≡ old.entries + 1 → new.creates ≡ old.creates + creates_by (creates a) → reverse new.ready ≡ ready_by t a (reverse old.ready)
-    → Takes code old new t a e
-takes_by code old new mid t a e begun x present k st w are event cells strands entries creates ready =
+    → Finds old.finder new.finder e → Takes code old new t a e
+takes_by code old new mid t a e begun x present k st w are event cells strands entries creates ready finds =
     let same : k.before ≡ x = some_same k.before x (sym k.present ∙ present) in
     let here = get_set_here old.lines t k.after (get_below old.lines t x present) in
     let middle : k.after ≡ w.before = some_same k.after w.before (sym here ∙ (ap (λ l. slice_get l t) (sym k.is) ∙ w.present)) in
@@ -129,12 +135,19 @@ takes_by code old new mid t a e begun x present k st w are event cells strands e
       entries = entries;
       creates_are = creates;
       ready = ready;
+      finds = finds;
     }
+
+pub first_of : (P : tree.Program) (code : Compiled) (h : List Event) (now : ReplayNow) (m : Machine) (items : List ℕ) (i t : ℕ) → IsReplayOf P code h now m → items ≡ now.ready → i + 1 ≡ length items → slice_get items i ≡ Some t → (r : Running) × IsFirst h m t r
+first_of P code h now m items i t x view at present =
+    let r = last_first items i t at present in
+    ready_is_first P h m t r.0 x.leads (sym x.ready ∙ (ap reverse (sym view) ∙ r.1))
 
 pub none_left : (xs : List ℕ) → length xs ≡ 0 → reverse xs ≡ []
 none_left [] h = refl
 none_left (x ∷ xs) h = absurd (omega (arith, h))
 
 -- a run of these parts
-abbrev pub now_of : List Line → List ℤ → List ℕ → ℕ → ℕ → ℕ → ReplayNow
-now_of lines cells ready entries creates strands = record { lines = lines; cells = cells; ready = ready; entries = entries; creates = creates; strands = strands }
+abbrev pub now_of : List Line → List ℤ → List ℕ → ℕ → ℕ → ℕ → Finder → ReplayNow
+now_of lines cells ready entries creates strands finder =
+    record { lines = lines; cells = cells; ready = ready; entries = entries; creates = creates; strands = strands; finder = finder }

@@ -1,5 +1,5 @@
 -- What a call of `event` answers.
-use Rattle.std.specs.Prelude.{◌≡◌, ℕ, ◌<◌, ◌≤◌, true, false, List, [], ◌∷◌, ◌++◌, length, Option, Some, None, Bool}
+use Rattle.std.specs.Prelude.{◌≡◌, ℕ, ◌<◌, ◌≤◌, true, false, List, [], ◌∷◌, ◌++◌, length, Option, Some, None, Bool, ◌⊎◌}
 use Rattle.fut_base.specs.declared.event.Event.{Event}
 use Rattle.fut_base.specs.declared.record.Finish.{Finish}
 use Rattle.fut_base.specs.declared.record.Finish.TheVariants as finish
@@ -19,6 +19,10 @@ use Rattle.run_replay.specs.Replays.{ReplayNow, IsReplayOf, IsEvent, IsFree}
 abbrev pub is_create : asked.Wish → Bool
 is_create (wish.Create _) = true
 is_create _ = false
+
+-- a task that has not ended is out of steps, or its wish is allowed
+abbrev pub MayGoOn : tree.Program → Machine → ℕ → Type 0
+MayGoOn P m t = (r : Running) × IsRunning m t r × (IsOutOfSteps r.state ⊎ IsAllowed P m t)
 
 -- a task of a wish for its children (none) or for a future
 abbrev pub WaitsFor : Wish → Option ℕ → Type 0

@@ -10,17 +10,20 @@ use Rattle.fut_syntax.specs.Trees as tree
 use Rattle.fut_check.specs.Items.{IsWellTyped}
 use Rattle.task_machine.specs.State.{TaskState, wish_of, effect_of, start_state, Answers}
 use Rattle.task_machine.specs.Runs.{StandsAt}
-use Rattle.task_machine.specs.Machine.{Machine, Running, opening, ended_with, AllHaveEnded, Permits, strand_after, cells_after, Leads, creates, create_count}
+use Rattle.task_machine.specs.Machine.{Machine, Running, opening, ended_with, AllHaveEnded, IsRunning, Permits, strand_after, cells_after, Leads, creates, create_count}
 use Rattle.task_types.specs.Typed.{ArgsFit, ActionFits, any_future}
 use Rattle.task_code.specs.Flat.{Compiled, IsCodeOf}
-use Rattle.task_code.specs.Tasks.{TaskNow, IsTaskOf, IsStill}
+use Rattle.task_code.specs.Tasks.{TaskNow, IsTaskOf, IsStill, Wishes}
 use Rattle.task_code.specs.declared.task.Wish as asked
 use Rattle.task_code.specs.declared.task.Wish.TheVariants as wish
+use Rattle.access_shards.specs.Histories.{IsInStep}
+use Rattle.race_finder.specs.declared.finder.Finder.{Finder}
+use Rattle.race_finder.specs.Finding.{IsFinderOf}
 use Rattle.run_laws.specs.Ready.{ready_by, ready_of}
 use Rattle.run_replay.specs.declared.line.Line.{Line}
 
--- what a run shows: its tasks by number, the cells, the tasks that have not ended, the first in English order last, and how many
--- entries, creates and strands were made
+-- what a run shows: its tasks by number, the cells, the tasks that have not ended, the first in English order last, how many entries,
+-- creates and strands were made, and the finder of its races
 pub record ReplayNow : Type 0 where
   pub lines : List Line
   pub cells : List ℤ
@@ -28,6 +31,7 @@ pub record ReplayNow : Type 0 where
   pub entries : ℕ
   pub creates : ℕ
   pub strands : ℕ
+  pub finder : Finder
 
 -- a line of the run is a task of the machine
 pub record IsLineOf (P : tree.Program) (code : Compiled) (line : Line) (r : Running) : Type 0 where
@@ -47,7 +51,7 @@ AreLinesOf P code [] (_ ∷ _) = ⊥
 AreLinesOf P code (_ ∷ _) [] = ⊥
 AreLinesOf P code (x ∷ xs) (r ∷ rs) = IsLineOf P code x r × AreLinesOf P code xs rs
 
--- a history leads to a machine, and the run is that machine
+-- a history leads to a machine, the run is that machine, and its finder knows the history
 pub record IsReplayOf (P : tree.Program) (code : Compiled) (h : List Event) (now : ReplayNow) (m : Machine) : Type 0 where
   pub typed : IsWellTyped P
   pub code_is : IsCodeOf P code
@@ -60,6 +64,7 @@ pub record IsReplayOf (P : tree.Program) (code : Compiled) (h : List Event) (now
   pub ready : reverse now.ready ≡ ready_of h
   pub few : length now.lines ≤ now.entries + 1
   pub made : now.strands ≤ 2 * now.entries + 1
+  pub found : IsFinderOf h now.finder
 
 -- a run is one of some program
 abbrev pub IsSomeReplay : Compiled → ReplayNow → Type 0
@@ -171,6 +176,14 @@ AreBegun code future _ lines = lines ≡ []
 
 -- ---- one event
 
+-- a finder has taken an event, after whatever history it may come
+abbrev pub Finds : Finder → Finder → Event → Type 0
+Finds old new e = (h : List Event) → IsFinderOf h old → IsInStep (h ++ e ∷ []) → IsFinderOf (h ++ e ∷ []) new
+
+-- a finder still knows what it knew
+abbrev pub FindsStill : Finder → Finder → Type 0
+FindsStill old new = (h : List Event) → IsFinderOf h old → IsFinderOf h new
+
 abbrev pub creates_by : Bool → ℕ
 creates_by true = 1
 creates_by false = 0
@@ -190,6 +203,7 @@ pub record Takes (code : Compiled) (old new : ReplayNow) (t : ℕ) (a : Action) 
   pub entries : new.entries ≡ old.entries + 1
   pub creates_are : new.creates ≡ old.creates + creates_by (creates a)
   pub ready : reverse new.ready ≡ ready_by t a (reverse old.ready)
+  pub finds : Finds old.finder new.finder e
 
 -- a task of the machine stands at a wish that an action answers, and may act so
 pub record CanAct (P : tree.Program) (m : Machine) (r : Running) (a : Action) : Type 0 where
@@ -197,6 +211,16 @@ pub record CanAct (P : tree.Program) (m : Machine) (r : Running) (a : Action) : 
   pub stands : StandsAt r.state stop
   pub answers : Answers (wish_of P stop) a
   pub permits : Permits m r a
+
+-- a task of some run may act so
+pub record IsLegalAct (code : Compiled) (now : ReplayNow) (t : ℕ) (a : Action) : Type 0 where
+  pub program : tree.Program
+  pub history : List Event
+  pub machine : Machine
+  pub task : Running
+  pub replay : IsReplayOf program code history now machine
+  pub running : IsRunning machine t task
+  pub can : CanAct program machine task a
 
 -- ---- the wish of a task
 
@@ -216,3 +240,14 @@ abbrev pub IsBarred : Machine → Running → asked.Wish → Option ℕ → Type
 IsBarred m r wish.Sync o = (o ≡ None) × (AllHaveEnded m r.block → ⊥)
 IsBarred m r (wish.Get future) o = (o ≡ Some future) × (ended_with m future ≡ None)
 IsBarred m r _ o = ⊥
+
+-- a task of some run stands at a wish that waits for nothing
+pub record IsFreeWish (code : Compiled) (now : ReplayNow) (t : ℕ) (w : asked.Wish) : Type 0 where
+  pub program : tree.Program
+  pub history : List Event
+  pub machine : Machine
+  pub task : Running
+  pub replay : IsReplayOf program code history now machine
+  pub running : IsRunning machine t task
+  pub wishes : Wishes program 1000000 task.state w
+  pub free : IsFree machine task w

@@ -1,5 +1,5 @@
 -- The serial run: the first task, in English order, of those that have not ended makes the next event.
-use Rattle.std.specs.Prelude.{◌≡◌, ℕ, ◌+◌, ◌≤◌, List, [], ◌∷◌, length, reverse, ℤ, Option, Some, None}
+use Rattle.std.specs.Prelude.{◌≡◌, ℕ, ◌+◌, ◌≤◌, List, [], ◌∷◌, ◌++◌, length, reverse, ℤ, Option, Some, None, ◌⊎◌}
 use Rattle.fut_base.specs.declared.event.Event.{Event}
 use Rattle.fut_base.specs.declared.record.Finish.{Finish}
 use Rattle.fut_base.specs.declared.record.Finish.TheVariants as finish
@@ -10,7 +10,7 @@ use Rattle.task_machine.specs.Machine.{Machine, Running, opening, Leads, EachEnd
 use Rattle.task_code.specs.Flat.{Compiled, IsCodeOf}
 use Rattle.run_laws.specs.Laws.{IsFirst}
 use Rattle.run_replay.specs.Replays.{ReplayNow, IsReplayOf}
-use Rattle.run_replay.specs.Next.{IsSpent}
+use Rattle.run_replay.specs.Next.{IsSpent, MayGoOn}
 
 -- each of these events, of which the newest stands first, is of the task that was first after the earlier ones
 abbrev pub IsSerialPast : tree.Program → List Event → Type 0
@@ -35,6 +35,14 @@ pub record IsSerialRun (P : tree.Program) (limits : Limits) (h : List Event) (f 
   pub stops : Stops P limits h machine f
   pub holds : FinishHolds P h f
   pub cells_are : cells ≡ machine.cells
+
+-- after a history all tasks have ended, or one that has not is out of steps or may go on
+abbrev pub IsNotStuck : tree.Program → List Event → Type 0
+IsNotStuck P h = (m : Machine) × Leads P (opening P) h m × (EachEnded m.tasks ⊎ ((t : ℕ) × MayGoOn P m t))
+
+-- so it is after each beginning of a history
+abbrev pub IsNeverStuck : tree.Program → List Event → Type 0
+IsNeverStuck P h = (before later : List Event) → h ≡ before ++ later → IsNotStuck P before
 
 -- a serial run so far
 pub record Runs (P : tree.Program) (code : Compiled) (limits : Limits) (h : List Event) (now : ReplayNow) : Type 0 where

@@ -9,3 +9,5 @@ mod same;
 pub mod serial;
 pub mod step;
 mod table;
+#[cfg(test)]
+mod tests;

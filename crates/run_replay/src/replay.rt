@@ -1,7 +1,8 @@
 //! A run: its events one after the other.
-ghost use Rattle.std.specs.Prelude.{◌≡◌, ◌↔◌, IsTrue, ◌<◌, ◌≤◌, ◌+◌, ◌*◌, ◌^◌, ℕ, ℤ, true, false, ◌⊎◌, List, [], length, slice_get, Some, None, IfOk, OnErr, OnOk, MatchOption};
+ghost use Rattle.std.specs.Prelude.{◌≡◌, ◌↔◌, IsTrue, ◌<◌, ◌≤◌, ◌+◌, ◌*◌, ◌^◌, ℕ, ℤ, true, false, ◌⊎◌, List, [], length, slice_get, Some, None, IfOk, IfSome, OnErr, OnOk, MatchOption};
 ghost use Rattle.fut_base.specs.declared.event.Event.{Event};
 ghost use Rattle.fut_base.specs.Events.{action_of, event_of};
+ghost use Rattle.fut_base.specs.Racing.{IsReport};
 ghost use Rattle.fut_syntax.specs.Trees as tree;
 ghost use Rattle.fut_check.specs.Items.{IsWellTyped};
 ghost use Rattle.fut_base.specs.declared.record.Value.{Value as Carried};
@@ -12,15 +13,16 @@ ghost use Rattle.task_code.specs.Flat.{Compiled, IsCodeOf};
 ghost use Rattle.task_code.specs.Tasks.{Wishes};
 ghost use Rattle.task_code.specs.declared.task.Wish.TheVariants as asked;
 ghost use Rattle.run_laws.specs.Laws.{IsFirst};
-ghost use Rattle.run_replay.specs.Next.{Goes, is_create, IsBar, IsNext, MayGo};
-ghost use Rattle.run_replay.specs.Replays.{HaveEnded, IsOn, is_running, RunsStill, value_at, CanAct, IsBarred, IsEvent, IsFree, IsReplayOf, IsSomeReplay, RunsAt, StandsStill, StillAt, Takes};
+ghost use Rattle.run_replay.specs.Next.{Goes, is_create, IsBar, IsNext, MayGo, MayGoOn};
+ghost use Rattle.run_replay.specs.Replays.{HaveEnded, IsOn, is_running, RunsStill, value_at, CanAct, IsBarred, IsEvent, IsFree, IsFreeWish, IsLegalAct, IsReplayOf, IsSomeReplay, RunsAt, StandsStill, StillAt, Takes};
 
 use crate::copies::copy_of;
 use crate::line::{Line, begin, begin_child};
 use crate::ready::reorder;
 use crate::table::{commit, creates_of, give_room, strands_of, write};
 use fut_base::list::{Listing, NoMemory};
-use fut_base::record::{Act, Args, Cells, Entry, Finish, Limits, Value};
+use fut_base::record::{Act, Args, Cells, Entry, Finish, Limits, Races, Value};
+use race_finder::Finder;
 use std::alloc::Global;
 use std::marker::Model;
 use task_code::code::Code;
@@ -28,6 +30,9 @@ use task_code::task::Wish;
 
 /// The greatest number of local steps of a task in a row.
 const MOST_STEPS: u32 = 1_000_000;
+
+/// The greatest number of entries of a run: 2^29.
+pub(crate) const MOST_ENTRIES: u32 = 536_870_912;
 
 /// What the next event of a task is, or why there is none.
 #[derive(Drop)]
@@ -40,7 +45,7 @@ pub enum Next {
     NoMemory,
 }
 
-/// A run so far. `ready` has the tasks that have not ended, the first in English order last.
+/// A run so far, with its races. `ready` has the tasks that have not ended, the first in English order last.
 #[derive(Drop)]
 pub struct Replay {
     alloc: Global,
@@ -50,6 +55,7 @@ pub struct Replay {
     entries: u32,
     creates: u32,
     strands: u64,
+    finder: Finder,
 }
 
 impl Model for Replay {
@@ -57,7 +63,7 @@ impl Model for Replay {
 
     ghost Value = { ReplayNow };
 
-    ghost view = { λ r. record { lines = r.lines.items; cells = r.cells.items; ready = r.ready.items; entries = r.entries; creates = r.creates; strands = r.strands } };
+    ghost view = { λ r. record { lines = r.lines.items; cells = r.cells.items; ready = r.ready.items; entries = r.entries; creates = r.creates; strands = r.strands; finder = r.finder } };
 }
 
 /// Whether a task goes on with local steps for too long.
@@ -89,6 +95,7 @@ impl Replay {
         let cells = vec![in alloc; 0; code.cells() as usize]?;
         let mut ready = Vec::new(alloc);
         ready.push(0)?;
+        let finder = Finder::start(alloc)?;
         Ok(Replay {
             alloc,
             lines,
@@ -97,6 +104,7 @@ impl Replay {
             entries: 0,
             creates: 0,
             strands: 1,
+            finder,
         })
     }
 
@@ -108,9 +116,19 @@ impl Replay {
         Ok(Listing::from_vec(held))
     }
 
-    /// The first task, in English order, of those that have not ended. `None` exactly where every task has ended.
+    /// The races of the entries so far: the racing cells in order, each with its first pair.
+    pub fn races(&self, alloc: Global) -> Result<Races, NoMemory>
+        requires known { (code : Compiled) × IsSomeReplay code self.now }
+        ensures { IfOk result (λ races. (P : tree.Program) (code : Compiled) (h : List Event) (m : Machine) → IsReplayOf P code h self.now m → IsReport h races.items) }
+    {
+        self.finder.races(alloc)
+    }
+
+    /// The first task, in English order, of those that have not ended. `None` exactly where every task has ended. The task is
+    /// out of steps, or what it wishes is allowed: no run is stuck.
     pub fn next_ready(&self) -> Option<u32>
-        ensures { (P : tree.Program) (code : Compiled) (h : List Event) (m : Machine) → IsReplayOf P code h self.now m → MatchOption result (EachEnded m.tasks) (λ t. (r : Running) × IsFirst h m t r) }
+        ensures first { (P : tree.Program) (code : Compiled) (h : List Event) (m : Machine) → IsReplayOf P code h self.now m → MatchOption result (EachEnded m.tasks) (λ t. (r : Running) × IsFirst h m t r) }
+        ensures may_go_on { (P : tree.Program) (code : Compiled) (h : List Event) (m : Machine) → IsReplayOf P code h self.now m → IfSome result (λ t. MayGoOn P m t) }
     {
         let count = self.ready.len();
         if count == 0 {
@@ -281,11 +299,12 @@ impl Replay {
         }
     }
 
-    /// Takes an act of a task.
+    /// Takes an act of a task, after fewer than 2^29 entries. What may want memory comes first, and the finder last of it.
     pub(crate) fn take(&mut self, code: &Code, task: u32, act: Act) -> Result<Entry, NoMemory>
+        requires legal { IsLegalAct code.now self.old task (action_of act) }
         requires exists { task < length self.old.lines }
         requires still { StillAt code.now self.old.lines task }
-        requires few { self.old.entries + 1 < 2 ^ 32 }
+        requires few { self.old.entries < 2 ^ 29 }
         requires created { self.old.creates + 1 < 2 ^ 32 }
         requires made { self.old.strands + 2 < 2 ^ 64 }
         ensures taken { IfOk result (λ entry. Takes code.now self.old self.new task (action_of act) (event_of entry)) }
@@ -296,7 +315,9 @@ impl Replay {
         let child = begin_child(self.alloc, code, self.lines[place].future, &act)?;
         let own = copy_of(self.alloc, task, strand, &act)?;
         give_room(&mut self.lines, code, place)?;
-        reorder(&mut self.ready, task, &act)?;
+        self.ready.reserve(1)?;
+        self.finder.take(&own)?;
+        reorder(&mut self.ready, task, &act);
         write(&mut self.cells, &act);
         self.strands += strands_of(&act);
         self.creates += creates_of(&act);
@@ -309,10 +330,10 @@ impl Replay {
 
     /// Makes the event of a task whose wish waits for nothing.
     fn go(&mut self, code: &Code, task: u32, wish: Wish) -> Result<Entry, NoMemory>
-        requires known { IsSomeReplay code.now self.old }
+        requires free { IsFreeWish code.now self.old task wish }
         requires still { StillAt code.now self.old.lines task }
         requires event { IsEvent wish }
-        requires few { self.old.entries < 2 ^ 30 }
+        requires few { self.old.entries < 2 ^ 29 }
         ensures made { (P : tree.Program) (h : List Event) (m : Machine) (r : Running) → IsReplayOf P code.now h self.old m → IsRunning m task r → Wishes P 1000000 r.state wish → IsFree m r wish → IfOk result (λ entry. Goes P code.now h m task wish (event_of entry) self.new) }
         ensures unchanged { OnErr result (StandsStill code.now self.old self.new) }
     {

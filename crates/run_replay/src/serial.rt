@@ -1,16 +1,17 @@
 //! The serial run: a child runs to its end before its maker goes on.
-ghost use Rattle.std.specs.Prelude.{◌≡◌, ◌≤◌, IfOk, length};
+ghost use Rattle.std.specs.Prelude.{◌≡◌, ◌≤◌, IfOk};
 ghost use Rattle.fut_base.specs.Events.{events_of};
 ghost use Rattle.fut_base.specs.Racing.{IsReport};
 ghost use Rattle.fut_syntax.specs.Trees as tree;
 ghost use Rattle.fut_check.specs.Items.{IsWellTyped};
-ghost use Rattle.task_code.specs.Flat.{IsCodeOf};
-ghost use Rattle.run_replay.specs.Serials.{AlwaysRuns, HasTurned, IsSerialRun};
+ghost use Rattle.task_machine.specs.Machine.{Machine};
+ghost use Rattle.task_code.specs.Flat.{Compiled, IsCodeOf};
+ghost use Rattle.run_replay.specs.Replays.{IsReplayOf};
+ghost use Rattle.run_replay.specs.Serials.{AlwaysRuns, HasTurned, IsNeverStuck, IsSerialRun};
 
 use crate::replay::{Next, Replay};
 use fut_base::list::NoMemory;
 use fut_base::record::{Finish, History, Limits, Ran};
-use race_report::found_of;
 use std::alloc::Global;
 use task_code::code::Code;
 
@@ -45,11 +46,11 @@ fn turn(
 
 /// The run with its races.
 fn finished(alloc: Global, run: &Replay, history: History, finish: Finish) -> Result<Ran, NoMemory>
-    requires { length history.items ≤ 1000000 }
+    requires known { (P : tree.Program) × (code : Compiled) × (m : Machine) × IsReplayOf P code (events_of history) run.now m }
     ensures run { IfOk result (λ ran. (events_of ran.history ≡ events_of history) × (ran.finish ≡ finish) × (ran.cells.items ≡ run.now.cells)) }
     ensures races { IfOk result (λ ran. IsReport (events_of ran.history) ran.races.items) }
 {
-    let races = found_of(alloc, &history)?;
+    let races = run.races(alloc)?;
     let cells = run.cells(alloc)?;
     Ok(Ran {
         history,
@@ -59,7 +60,8 @@ fn finished(alloc: Global, run: &Replay, history: History, finish: Finish) -> Re
     })
 }
 
-/// The run of a program in which the first task, in English order, of those that have not ended makes the next event.
+/// The run of a program in which the first task, in English order, of those that have not ended makes the next event. After
+/// each of its entries all tasks have ended, or one that has not is out of steps or may go on.
 ///
 /// It stops where all tasks have ended, or else by the first of these that holds of the first task: it is out of steps;
 /// it wishes to create, and the history has `limits.futures` creates; the history has `limits.events` entries.
@@ -70,6 +72,7 @@ pub fn serial(alloc: Global, code: &Code, limits: Limits) -> Result<Ran, NoMemor
     requires futures { limits.futures ≡ 4096 }
     ensures run { IfOk result (λ ran. (P : tree.Program) → IsWellTyped P → IsCodeOf P code.now → IsSerialRun P limits (events_of ran.history) ran.finish ran.cells.items) }
     ensures races { IfOk result (λ ran. IsReport (events_of ran.history) ran.races.items) }
+    ensures never_stuck { IfOk result (λ ran. (P : tree.Program) → IsWellTyped P → IsCodeOf P code.now → IsNeverStuck P (events_of ran.history)) }
 {
     let mut run = Replay::start(alloc, code)?;
     let mut history = History::make(alloc);

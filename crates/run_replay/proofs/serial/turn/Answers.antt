@@ -12,14 +12,14 @@ returns-in-None c = λ P typed of.
     let code = c.args.code.now in
     let h = events_of c.args.history.now in
     let x = c.requires.runs P typed of in
-    stays P code c.args.limits h (events_of c.reserve.new.self) c.args.run.now c.args.run.now x finish.Whole (ap (map event_of) c.reserve.ensures.items) x.replay (c.in-None.ensures P code h x.machine x.replay)
+    stays P code c.args.limits h (events_of c.reserve.new.self) c.args.run.now c.args.run.now x finish.Whole (ap (map event_of) c.reserve.ensures.items) x.replay (c.in-None.ensures.first P code h x.machine x.replay)
 
 pub returns-in-Spent : goal.returns-in-Spent
 returns-in-Spent c = λ P typed of.
     let code = c.args.code.now in
     let h = events_of c.args.history.now in
     let x = c.requires.runs P typed of in
-    let first = c.in-Some.ensures P code h x.machine x.replay in
+    let first = c.in-Some.ensures.first P code h x.machine x.replay in
     let spent = c.in-Spent.ensures P h x.machine x.replay in
     stays P code c.args.limits h (events_of c.reserve.new.self) c.args.run.now c.event.new.self x c.in-Spent.finish (ap (map event_of) c.reserve.ensures.items) spent.1
     (stops_of P c.args.limits h x.machine c.in-Some.task first.0 c.in-Spent.finish first.1 spent.0)
@@ -33,7 +33,7 @@ returns-in-Made c =
       ap length added ∙ longer h (event_of e),
       λ P typed of. (
           let x = c.requires.runs P typed of in
-          let first = c.in-Some.ensures P code h x.machine x.replay in
+          let first = c.in-Some.ensures.first P code h x.machine x.replay in
           subst (λ g. Runs P code c.args.limits g c.event.new.self) (sym added)
           (runs_further P code c.args.limits h c.args.run.now c.event.new.self x c.in-Some.task first.0 (event_of e) first.1 (c.in-Made.ensures P h x.machine x.replay))),
     )
@@ -43,7 +43,7 @@ unreachable-requires c =
     let p = c.requires.program in
     let h = events_of c.args.history.now in
     let x = c.requires.runs p.0 p.1 p.2 in
-    let first = c.in-Some.ensures p.0 c.args.code.now h x.machine x.replay in
+    let first = c.in-Some.ensures.first p.0 c.args.code.now h x.machine x.replay in
     let waits = c.in-Waits.ensures p.0 h x.machine x.replay in
     never_waits p.0 h x.machine c.in-Some.task first.0 c.in-Waits.future p.1 x.replay.leads first.1 waits.0.0
 
@@ -52,6 +52,6 @@ unreachable-requires-in-Idle c =
     let p = c.requires.program in
     let h = events_of c.args.history.now in
     let x = c.requires.runs p.0 p.1 p.2 in
-    let first = c.in-Some.ensures p.0 c.args.code.now h x.machine x.replay in
+    let first = c.in-Some.ensures.first p.0 c.args.code.now h x.machine x.replay in
     let none = c.in-Idle.ensures p.0 h x.machine x.replay in
     none.0 first.0 first.1.running

@@ -28,7 +28,7 @@ returns-clause-still c =
     let present = slice_get_read lines (length lines) t x refl (get_below lines t running.0 running.1) c.index_mut-line.ensures.value in
     let task = c.advance.ensures in
     let y : Line = record { task = c.advance.new.self; strand = x.strand; future = x.future; block = x.block; value = x.value } in
-    let new : ReplayNow = (now_of (slice_set lines t y) c.self.inside.cells.items c.self.inside.ready.items c.self.inside.entries c.self.inside.creates c.self.inside.strands) in
+    let new : ReplayNow = (now_of (slice_set lines t y) c.self.inside.cells.items c.self.inside.ready.items c.self.inside.entries c.self.inside.creates c.self.inside.strands c.self.inside.finder) in
     subst (λ v. StandsStill c.args.code.now v new) c.self.view_is
     (still_by c.args.code.now (the_view c.self.inside) new t
     (record {
@@ -44,7 +44,7 @@ returns-clause-still c =
         value = refl;
       };
     })
-    refl refl refl refl refl)
+    refl refl refl refl refl (λ h f. f))
 
 pub returns-clause-running : goal.returns-clause-running
 returns-clause-running c =

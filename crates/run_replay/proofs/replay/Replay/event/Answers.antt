@@ -42,6 +42,16 @@ go-requires-clause-few c =
     let entries = still.entries in
     omega (arith, few, bound, entries)
 
+pub go-requires-clause-free : goal.go-requires-clause-free
+go-requires-clause-free c =
+    let (P, h, m, k) = c.requires.known in
+    let t = c.args.task in
+    let r = running_task P c.args.code.now h c.args.self.now m t k (sym c.runs.ensures ∙ c.if-not-runs.false) in
+    let still = c.ask-wish.ensures.still P h m k in
+    let w = c.ask-wish.ensures.wish P h m r.0 k r.1.0 in
+    let may = c.in_default.ensures P c.args.code.now h m r.0 still r.1 w in
+    record { program = P; history = h; machine = m; task = r.0; replay = still; running = r.1; wishes = w; free = may.free }
+
 pub returns-in-Ok : goal.returns-in-Ok
 returns-in-Ok c = λ P h m k.
     let t = c.args.task in

@@ -45,6 +45,15 @@ returns-then-not-same_act c = λ P h m k.
     let can = c.in-Ok.ensures P h m r.0 still r.1.0 w (c.in_default.ensures P c.args.code.now h m r.0 still r.1.0) in
     (other_action P m (event_of c.args.entry.now) r.0 (action_of c.in-Ok.act) r.1 can (λ same. false≢true (sym c.if-not-same_act.true ∙ c.same_act.ensures.1 same)), still)
 
+pub take-requires-clause-legal : goal.take-requires-clause-legal
+take-requires-clause-legal c =
+    let (P, h, m, k) = c.requires.known in
+    let r = running_task P c.args.code.now h c.args.self.now m c.args.entry.now.task k (sym c.runs.ensures ∙ c.if-not-runs.false) in
+    let w = c.ask-wish.ensures.wish P h m r.0 k r.1.0 in
+    let still = c.ask-wish.ensures.still P h m k in
+    let can = c.in-Ok.ensures P h m r.0 still r.1.0 w (c.in_default.ensures P c.args.code.now h m r.0 still r.1.0) in
+    record { program = P; history = h; machine = m; task = r.0; replay = still; running = r.1; can = can }
+
 pub take-requires-clause-exists : goal.take-requires-clause-exists
 take-requires-clause-exists c = let l = c.ask-wish.ensures.running in get_below _ _ _ l.1
 

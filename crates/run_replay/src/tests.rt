@@ -1,0 +1,149 @@
+//! Given events: those of a run are made, and others are refused.
+ghost use Rattle.std.specs.Prelude.{◌+◌, ◌<◌, ◌^◌, length, IfOk};
+ghost use Rattle.fut_syntax.specs.Trees as tree;
+ghost use Rattle.fut_check.specs.Items.{IsWellTyped};
+ghost use Rattle.task_code.specs.Flat.{IsCodeOf};
+ghost use Rattle.run_replay.specs.Replays.{IsSomeReplay};
+
+use crate::replay::Replay;
+use crate::serial::serial;
+use crate::step::StepStop;
+use fut_base::list::{Listing, NoMemory};
+use fut_base::record::{Act, Entry, Limits, Value};
+use fut_check::check;
+use fut_syntax::parse;
+use std::alloc::Global;
+use std::test::Fail;
+use task_code::code::Code;
+
+/// A future and a child write a cell; `main` waits for the child, reads, and gets the future. Its serial run:
+/// 0 t0 s0 create 0 t1 s1 s2 3, 1 t1 s1 write 0 3, 2 t1 s1 end 5, 3 t0 s2 spawn 0 t2 s3 s4 4, 4 t2 s3 write 0 4, 5 t2 s3 end 5,
+/// 6 t0 s4 sync s5, 7 t0 s5 read 0 4, 8 t0 s5 get f1 5 s6, 9 t0 s6 end 5.
+const TEXT: &str =
+    "cells a[1]; task kid(n: int) int { a[0] = n; return 5; } task main() int { var h: fut int = create kid(3); spawn kid(4); sync; var x: int = a[0]; var y: int = get h; return y; }";
+
+/// The code of a well-typed text; of another one it is want of memory.
+fn code_of(alloc: Global, text: &[u8]) -> Result<Code, NoMemory>
+    requires { length text.now + 1 < 2 ^ 32 }
+    ensures { IfOk result (λ code. (P : tree.Program) × IsWellTyped P × IsCodeOf P code) }
+{
+    match parse(alloc, text) {
+        Ok(program) => match check(alloc, &program) {
+            Ok(checked) => Code::of(alloc, &checked),
+            Err(_) => Err(NoMemory),
+        },
+        Err(_) => Err(NoMemory),
+    }
+}
+
+/// What a run answers to an event.
+fn answer(run: &mut Replay, code: &Code, entry: &Entry) -> Result<(), StepStop>
+    requires { IsSomeReplay code.now run.old }
+    ensures { IsSomeReplay code.now run.new }
+{
+    run.step(code, entry)
+}
+
+/// Makes these events; whether each was made.
+fn make_all(run: &mut Replay, code: &Code, entries: &[Entry]) -> bool
+    requires { IsSomeReplay code.now run.old }
+    ensures { IsSomeReplay code.now run.new }
+{
+    for entry in entries {
+        if answer(run, code, entry).is_err() {
+            return false;
+        }
+    }
+    true
+}
+
+/// Makes the events before a place, tries another one, and makes those from the place on. How the other one was refused, where
+/// all these were made.
+fn refusal(
+    alloc: Global,
+    code: &Code,
+    entries: &[Entry],
+    place: usize,
+    other: &Entry,
+) -> Result<Option<StepStop>, NoMemory>
+    requires { (P : tree.Program) × IsWellTyped P × IsCodeOf P code.now }
+{
+    if place > entries.len() {
+        return Ok(None);
+    }
+    let mut run = Replay::start(alloc, code)?;
+    let (before, later) = entries.split_at(place);
+    let made = make_all(&mut run, code, before);
+    let told = answer(&mut run, code, other);
+    if made && make_all(&mut run, code, later) {
+        return Ok(told.err());
+    }
+    Ok(None)
+}
+
+#[test]
+fn other_events_are_refused(rt: HostRuntime) -> Result<(), Fail> {
+    let alloc = rt.alloc();
+    let text = TEXT.as_bytes();
+    assert!(rt; text.len() < 8192);
+    let code = code_of(alloc, text)?;
+    let limits = Limits {
+        events: 1000,
+        local_steps: 1_000_000,
+        futures: 4096,
+    };
+    let ran = serial(alloc, &code, limits)?;
+    assert_eq!(rt; ran.history.len(), 10);
+    let none = Listing::make(alloc);
+    let get = |value| Act::Get {
+        future: 1,
+        value,
+        strand: 6,
+    };
+    let end = Act::End {
+        value: Value::Int(5),
+    };
+    let cases = [
+        // another value read, written, got, or ended with
+        (7, 0, 5, Act::Read { cell: 0, value: 3 }),
+        (4, 2, 3, Act::Write { cell: 0, value: 3 }),
+        (8, 0, 5, get(Value::Int(6))),
+        (8, 0, 5, get(Value::Fut(5))),
+        (
+            9,
+            0,
+            6,
+            Act::End {
+                value: Value::Int(6),
+            },
+        ),
+        // another strand, or another task
+        (4, 2, 4, Act::Write { cell: 0, value: 4 }),
+        (4, 1, 3, Act::Write { cell: 0, value: 4 }),
+        (4, 3, 3, Act::Write { cell: 0, value: 4 }),
+        // other arguments
+        (
+            3,
+            0,
+            2,
+            Act::Spawn {
+                code: 0,
+                child: 2,
+                kid: 3,
+                cont: 4,
+                args: none,
+            },
+        ),
+        // before the child has ended
+        (5, 0, 4, Act::Sync { strand: 5 }),
+        // before the write, and before the read
+        (4, 2, 3, end),
+        (7, 0, 5, get(Value::Int(5))),
+    ];
+    for (place, task, strand, act) in cases {
+        let other = Entry { task, strand, act };
+        let told = refusal(alloc, &code, ran.history.as_slice(), place, &other)?;
+        assert_eq!(rt; told, Some(StepStop::NotLegal), "{place}");
+    }
+    Ok(())
+}
