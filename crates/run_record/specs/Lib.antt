@@ -1,2 +1,5 @@
+pub mod Machine
 pub mod Pieces
+pub mod Records
 pub mod RunText
+pub mod Steps
