@@ -9,18 +9,18 @@ ghost use Rattle.task_machine.specs.Variables.{size_of};
 ghost use Rattle.task_frame.specs.Arrays.{IsCellOf};
 ghost use Rattle.task_code.specs.Flat.{AreGiven, AreCodesOf, IsCodeOf, IsCodeOfTask, instructions_at, code_of};
 
-use task_frame::cells::{CellArray, arrays_of, cells_of};
 use crate::compile::{add_block, fill_for, push, task_number};
-use task_frame::instruction::Instruction;
-use task_frame::names::{Name, find, names_of, narrow};
 use crate::scope::Scope;
-use task_frame::term::Term;
 use fut_base::list::NoMemory;
 use fut_check::Checked;
 use fut_syntax::tree::{Item, Param, Stmt, VarType};
 use sqlite_items::Items;
 use std::alloc::Global;
 use std::marker::Model;
+use task_frame::cells::{CellArray, arrays_of, cells_of};
+use task_frame::instruction::Instruction;
+use task_frame::names::{Name, find, names_of, narrow};
+use task_frame::term::Term;
 
 /// A parameter: its variable, how many argument values stand before its own, and its type.
 #[derive(Clone, Copy, Debug)]

@@ -11,15 +11,15 @@ ghost use Rattle.task_frame.specs.declared.instruction.Instruction.TheVariants.{
 ghost use Rattle.task_frame.specs.Names.{find_name, rooms_by, HasRoom};
 ghost use Rattle.task_code.specs.Flat.{place_of, fill_of, Means, MeanAll, IsSource, IsDone, DoesStmt, DoesBlock, DoesTail, Grows, Stands};
 
-use task_frame::cells::find_array;
-use task_frame::instruction::{Fill, Instruction, Source, Target};
-use task_frame::names::{Name, find, narrow};
 use crate::scope::Scope;
-use task_frame::term::Term;
 use fut_base::list::NoMemory;
 use fut_syntax::tree::{Expr, Init, Item, Operand, Primary, Sign, Stmt, Tail, VarType};
 use sqlite_items::{Boxed, Items};
 use std::alloc::Global;
+use task_frame::cells::find_array;
+use task_frame::instruction::{Fill, Instruction, Source, Target};
+use task_frame::names::{Name, find, narrow};
+use task_frame::term::Term;
 
 /// The expression with its variables by number. A word that the task does not declare is 0.
 #[cycle(terms)]

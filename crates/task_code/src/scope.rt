@@ -3,9 +3,9 @@ ghost use Rattle.std.specs.Prelude.{◌≡◌, ◌^◌, ◌<◌, length};
 ghost use Rattle.fut_syntax.specs.Views.{items_tree};
 ghost use Rattle.task_machine.specs.Texts.{arrays_from, tasks_from};
 
+use fut_syntax::tree::Item;
 use task_frame::cells::CellArray;
 use task_frame::names::Name;
-use fut_syntax::tree::Item;
 
 /// The items of the program, its arrays of cells, and the names of the task.
 #[derive(Clone, Copy)]

@@ -9,11 +9,11 @@ ghost use Rattle.task_code.specs.Flat.{AreGiven, code_of};
 ghost use Rattle.task_code.specs.Starting.{taken_in};
 
 use crate::code::{Code, Given, TaskCode};
-use task_frame::frame::Frame;
 use fut_base::list::NoMemory;
 use fut_base::record::Value;
 use fut_syntax::tree::VarType;
 use std::alloc::Global;
+use task_frame::frame::Frame;
 
 /// The variables of a task that begins with these arguments. The last parameter is set first, so that of two of one name the
 /// first counts.

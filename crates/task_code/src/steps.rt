@@ -9,14 +9,14 @@ ghost use Rattle.task_frame.specs.Frames.{slot_for, zero_value};
 ghost use Rattle.task_frame.specs.Terms.{values_by, slot_by};
 ghost use Rattle.task_code.specs.Tasks.{aimed, local_source, moves, wished, wished_source, passed_by, passed_by_source, received, received_by, slots_after, place_after, IsTold, store_slots};
 
-use task_frame::cells::CellArray;
-use task_frame::frame::{Frame, Shape};
-use task_frame::instruction::{Fill, Instruction, Source, Target};
 use crate::task::Wish;
-use task_frame::term::Term;
 use fut_base::list::NoMemory;
 use fut_base::record::{Act, Args, Value};
 use std::alloc::Global;
+use task_frame::cells::CellArray;
+use task_frame::frame::{Frame, Shape};
+use task_frame::instruction::{Fill, Instruction, Source, Target};
+use task_frame::term::Term;
 
 /// Gives a variable a value.
 fn set(frame: &mut Frame, target: Target, value: Value)

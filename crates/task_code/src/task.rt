@@ -11,13 +11,13 @@ ghost use Rattle.task_code.specs.Flat.{IsCodeOf, code_of};
 ghost use Rattle.task_code.specs.Tasks.{IsTaskOf, IsSomeTask, IsStill, StopsAt, Wishes, Turned, Told, spot_after, slots_after, instruction_of, open_after, ended_after};
 
 use crate::code::Code;
-use task_frame::frame::Frame;
 use crate::starting::frame_at;
 use crate::steps::{ending, passed, step, take, wish};
 use fut_base::list::NoMemory;
 use fut_base::record::{Act, Args, Entry, Value};
 use std::alloc::Global;
 use std::marker::Model;
+use task_frame::frame::Frame;
 use task_machine::trace::Trace;
 
 /// What a task wishes to do next.
