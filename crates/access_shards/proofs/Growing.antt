@@ -1,5 +1,5 @@
 -- With further structural events the same is kept of a cell, and the accesses stay late.
-use Rattle.std.proofs.Common.{◌≡◌, ℕ, ◌<◌, ◌≤◌, List, [], ◌∷◌, ◌++◌, inl, inr, subst, ap, sym, refl, ◌∙◌, reverse, arith}
+use Rattle.std.proofs.Common.{◌≡◌, ◌≢◌, ℕ, ◌<◌, ◌≤◌, List, [], ◌∷◌, ◌++◌, inl, inr, subst, ap, sym, refl, ◌∙◌, reverse, arith}
 use Rattle.std.specs.Prelude.{Option, Some, None}
 use Rattle.std.proofs.lemmas.List.{reverse-append}
 use Rattle.fut_base.specs.declared.event.Event.{Event}
@@ -12,8 +12,13 @@ use Rattle.strand_tree.specs.Placing.{IsStrandOf}
 use Rattle.access_shards.specs.declared.kept.Access.{Access}
 use Rattle.access_shards.specs.declared.kept.Kept.TheVariants.{Clean, Found}
 use Rattle.access_shards.specs.Touches.{Touch, IsLate, AreRacing, IsFirstPair, IsLatest}
-use Rattle.access_shards.specs.Kept.{Kind, reading, kinds, Shows, IsWriter, AreReaders, touch}
-use Rattle.access_shards.specs.Laws.{AreOn, KeptStays, LateStays, CurrentMayCome}
+use Rattle.access_shards.specs.Kept.{Kind, reading, kinds, Shows, IsWriter, AreReaders, IsKept, touch}
+use Rattle.access_shards.specs.Logged.{StandsFirst, RiseInEnglish, reads_of}
+use Rattle.access_shards.specs.declared.kept.Kept.{Kept}
+use Rattle.fut_base.specs.Orders.{english_of, hebrew_of}
+use Rattle.reach_table.proofs.Events.{orders_stay}
+use Rattle.access_shards.proofs.Rising.{readers_apart}
+use Rattle.access_shards.specs.Laws.{AreOn, KeptStays, LogStays, LateStays, CurrentMayCome}
 
 -- further events make no strand less and change no strand's future
 pub more_strands : (later past : List Event) → IsSoundPast (later ++ past) → (v : ℕ) → v < next_strand past → (next_strand past ≤ next_strand (later ++ past)) × (home_of (later ++ past) v ≡ home_of past v)
@@ -87,6 +92,25 @@ pub kept_stays : KeptStays
 kept_stays s more past (Clean writer readers) sound on k =
     ((λ a b r. k.0 a b (race_back s more sound past on a b r)), writer_on s more sound past on writer k.1, readers_on s more sound past on readers.items k.2)
 kept_stays s more past (Found i j) sound on k = pair_on s more sound past on i j k
+
+-- strands keep their order
+stands_on : (s more : List Event) → IsSound (s ++ more) → (u v : Strand) → IsStrandOf s u → IsStrandOf s v → u.number ≢ v.number → StandsFirst s u v → StandsFirst (s ++ more) u v
+stands_on s more sound u v ou ov ne h =
+    let same = orders_stay s more (next_strand (reverse s)) (english_of (s ++ more)) (hebrew_of (s ++ more)) sound (record { english_is = refl; hebrew_is = refl }) in
+    record {
+      future_is = h.future_is;
+      first = same.first u.number v.number (record { less = ou.there; there = ou.there }) (record { less = ov.there; there = ov.there }) ne ∙ h.first;
+    }
+
+rise_stays : (s more : List Event) → IsSound (s ++ more) → (past : List (Touch Kind)) (kept : Kept) → IsKept s past kept → RiseInEnglish s (reads_of kept) → RiseInEnglish (s ++ more) (reads_of kept)
+rise_stays s more sound past (Found i j) k rise a b ha hb lt = absurd ha
+rise_stays s more sound past (Clean writer readers) k rise a b ha hb lt =
+    stands_on s more sound a.strand b.strand (k.2.each a ha).2.strand_of (k.2.each b hb).2.strand_of
+    (λ e. readers_apart s past readers.items k.2 a b ha hb lt ([], e)) (rise a b ha hb lt)
+
+pub log_stays : LogStays
+log_stays s more past l sound on k =
+    record { kept = kept_stays s more past l.kept sound on k.kept; rising = λ y. rise_stays s more sound past l.kept k.kept (k.rising y) }
 
 pub late_stays : LateStays
 late_stays s more past sound on late a b ha hb lt r = late a b ha hb lt ((same_paths s more sound b.strand a.strand (on a ha)).0 r)

@@ -2,6 +2,7 @@ pub mod Enough
 pub mod Next
 pub mod Keeping
 pub mod Looking
+pub mod Rising
 pub mod Logging
 pub mod Greatest
 pub mod Growing

@@ -1,7 +1,6 @@
 -- What a log keeps after one more access.
-use Rattle.std.proofs.Common.{◌≡◌, ℕ, ◌<◌, List, [], ◌∷◌, ◌++◌, inl, inr, subst, ap, sym, refl, ◌∙◌, option_to_list}
+use Rattle.std.proofs.Common.{◌≡◌, ℕ, ◌<◌, List, [], ◌∷◌, ◌++◌, ◌⊎◌, inl, inr, subst, ap, sym, refl, ◌∙◌, option_to_list, arith, Vec, Global, Bool}
 use Rattle.std.specs.Prelude.{Option, Some, None}
-use Rattle.fut_base.specs.Listed.{Listed}
 use Rattle.fut_base.specs.declared.event.Event.{Event}
 use Rattle.fut_base.specs.Dag.{Among, edges_of}
 use Rattle.strand_tree.specs.Placing.{IsStrandOf}
@@ -9,28 +8,28 @@ use Rattle.strand_tree.specs.declared.strand.Strand.{Strand}
 use Rattle.access_shards.specs.declared.kept.Access.{Access}
 use Rattle.access_shards.specs.declared.kept.Kept.{Kept}
 use Rattle.access_shards.specs.declared.kept.Kept.TheVariants.{Clean, Found}
-use Rattle.access_shards.specs.Kept.{Kind, reading, writing, kinds, Shows, IsInOrder, AreReaders, IsKept, IsViewOf, AreKnown, StrandsStay, KeepsOneMore, all_kept, touch}
-use Rattle.access_shards.specs.Finding.{AreOf, FindsLast, FindsApart, AllOnKnown}
+use Rattle.access_shards.specs.Touches.{Touch}
+use Rattle.access_shards.specs.Kept.{Kind, reading, writing, kinds, Shows, IsInOrder, AreReaders, IsKept, IsViewOf, AreKnown, StrandsStay, all_kept, touch}
+use Rattle.access_shards.specs.Logged.{Logged, IsLogOf, RiseInEnglish, KeepsOneMore, reads_of}
+use Rattle.access_shards.specs.Reading.{AreReads, KeepsRead}
+use Rattle.access_shards.specs.Finding.{AreOf, FindsLast, AllOnKnown}
 use Rattle.access_shards.proofs.Next.{pair_stays}
+use Rattle.access_shards.proofs.Rising.{readers_apart, in_order_left}
 use Rattle.strand_laws.proofs.Places.{among_or, among_left, among_right}
 use Rattle.access_shards.proofs.Keeping.{kept_in_order, strands_of, found_by_read, found_by_write, none_by_read, none_by_write, kept_by_read, kept_by_write, writer_stays}
-
-order_left : (xs ys : List Access) → IsInOrder (xs ++ ys) → IsInOrder xs
-order_left [] ys h = tt
-order_left (x ∷ xs) ys h = ((λ b k. h.0 b (among_left b xs ys k)), order_left xs ys h.1)
 
 order_right : (xs ys : List Access) → IsInOrder (xs ++ ys) → IsInOrder ys
 order_right [] ys h = h
 order_right (x ∷ xs) ys h = order_right xs ys h.1
 
 -- the judge knows the strands
-pub known_writer : (known : ℕ) (old : Kept) (writer : Option Access) (readers : Listed Access) → old ≡ Clean writer readers → AreKnown known old → AllOnKnown known (option_to_list writer)
+pub known_writer : (known : ℕ) (old : Kept) (writer : Option Access) (readers : Vec Access Global) → old ≡ Clean writer readers → AreKnown known old → AllOnKnown known (option_to_list writer)
 known_writer known old writer readers is k = λ a h. (let K = subst (AreKnown known) is k in K a (among_left a (option_to_list writer) readers.items h))
 
-pub known_readers : (known : ℕ) (old : Kept) (writer : Option Access) (readers : Listed Access) → old ≡ Clean writer readers → AreKnown known old → AllOnKnown known readers.items
+pub known_readers : (known : ℕ) (old : Kept) (writer : Option Access) (readers : Vec Access Global) → old ≡ Clean writer readers → AreKnown known old → AllOnKnown known readers.items
 known_readers known old writer readers is k = λ a h. (let K = subst (AreKnown known) is k in K a (among_right a (option_to_list writer) readers.items h))
 
-pub known_all : (known : ℕ) (old : Kept) (writer : Option Access) (readers : Listed Access) → old ≡ Clean writer readers → AreKnown known old → AllOnKnown known (all_kept writer readers.items)
+pub known_all : (known : ℕ) (old : Kept) (writer : Option Access) (readers : Vec Access Global) → old ≡ Clean writer readers → AreKnown known old → AllOnKnown known (all_kept writer readers.items)
 known_all known old writer readers is k = subst (AreKnown known) is k
 
 module _ (table : List Strand) (at : Strand) (place : ℕ) (known : ℕ) (english hebrew : List ℕ) where
@@ -43,79 +42,104 @@ module _ (table : List Strand) (at : Strand) (place : ℕ) (known : ℕ) (englis
       }
 
   -- once a race is found nothing changes
-  pub found_stays : (kind : Kind) (old : Kept) (first second : ℕ) → old ≡ Found first second → KeepsOneMore table at place kind known english hebrew old old
+  pub found_stays : (kind : Kind) (old : Logged) (first second : ℕ) → old.kept ≡ Found first second → KeepsOneMore table at place kind known english hebrew old old
   found_stays kind old first second is s past view may was =
-      subst (IsKept s (touch place at.number kind ∷ past)) (sym is)
-      (pair_stays Kind kinds (edges_of s) past (touch place at.number kind) may.rising first second (subst (IsKept s past) is was))
+      record {
+        kept = subst (IsKept s (touch place at.number kind ∷ past)) (sym is)
+            (pair_stays Kind kinds (edges_of s) past (touch place at.number kind) may.rising first second (subst (IsKept s past) is was.kept));
+        rising = was.rising;
+      }
 
-  module _ (old : Kept) (writer : Option Access) (readers : Listed Access) (is : old ≡ Clean writer readers) where
-    pub read_finds : (first : ℕ) → FindsLast table at known english hebrew (option_to_list writer) (Some first) → KeepsOneMore table at place reading known english hebrew old (Found first place)
-    read_finds first finds s past view may was =
-        let k = subst (IsKept s past) is was in
+  module _ (old : Logged) (writer : Option Access) (readers : Vec Access Global) (is : old.kept ≡ Clean writer readers) (room : ℕ) where
+    pub read_finds : (first : ℕ) (rise : Bool) → FindsLast table at known english hebrew (option_to_list writer) (Some first) → KeepsOneMore table at place reading known english hebrew old (record { kept = Found first place; room = room; rise = rise })
+    read_finds first rise finds s past view may was =
+        let k = subst (IsKept s past) is was.kept in
         let of : AreOf s (option_to_list writer) = record {
-          order = order_left (option_to_list writer) readers.items (kept_in_order s past at place reading may k.0 writer readers.items k.1 k.2);
+          order = in_order_left (option_to_list writer) readers.items (kept_in_order s past at place reading may k.0 writer readers.items k.1 k.2);
           strands = λ a h. strands_of s past at place reading may k.0 writer readers.items k.1 k.2 a (among_left a (option_to_list writer) readers.items h);
         } in
-        found_by_read s past at place reading may k.0 writer readers.items k.1 k.2 refl first (finds s view of)
+        record { kept = found_by_read s past at place reading may k.0 writer readers.items k.1 k.2 refl first (finds s view of); rising = λ _ a b h. absurd h }
 
-    pub write_finds : (first : ℕ) → FindsLast table at known english hebrew (all_kept writer readers.items) (Some first) → KeepsOneMore table at place writing known english hebrew old (Found first place)
-    write_finds first finds s past view may was =
-        let k = subst (IsKept s past) is was in
+    pub write_finds : (first : ℕ) (rise : Bool) → FindsLast table at known english hebrew (all_kept writer readers.items) (Some first) → KeepsOneMore table at place writing known english hebrew old (record { kept = Found first place; room = room; rise = rise })
+    write_finds first rise finds s past view may was =
+        let k = subst (IsKept s past) is was.kept in
         let of : AreOf s (all_kept writer readers.items) = record {
           order = kept_in_order s past at place writing may k.0 writer readers.items k.1 k.2;
           strands = strands_of s past at place writing may k.0 writer readers.items k.1 k.2;
         } in
-        found_by_write s past at place writing may k.0 writer readers.items k.1 k.2 refl first (finds s view of)
+        record { kept = found_by_write s past at place writing may k.0 writer readers.items k.1 k.2 refl first (finds s view of); rising = λ _ a b h. absurd h }
 
-    pub write_keeps : FindsLast table at known english hebrew (all_kept writer readers.items) None → (none : Listed Access) → none.items ≡ [] → KeepsOneMore table at place writing known english hebrew old (Clean (Some (record { place = place; strand = at })) none)
-    write_keeps finds none empty s past view may was =
-        let k = subst (IsKept s past) is was in
+    pub write_keeps : FindsLast table at known english hebrew (all_kept writer readers.items) None → (none : Vec Access Global) → none.items ≡ [] → (rise : Bool)
+        → KeepsOneMore table at place writing known english hebrew old (record { kept = Clean (Some (record { place = place; strand = at })) none; room = room; rise = rise })
+    write_keeps finds none empty rise s past view may was =
+        let k = subst (IsKept s past) is was.kept in
         let of : AreOf s (all_kept writer readers.items) = record {
           order = kept_in_order s past at place writing may k.0 writer readers.items k.1 k.2;
           strands = strands_of s past at place writing may k.0 writer readers.items k.1 k.2;
         } in
-        let new = kept_by_write s past at place writing may k.0 writer readers.items k.1 k.2 refl _ (shows_new s writing _ view refl) in (
-          none_by_write s past at place writing may k.0 writer readers.items k.1 k.2 (finds s view of),
-          new.0,
-          subst (AreReaders s (touch place at.number writing ∷ past)) (sym empty) new.1,
-        )
+        let new = kept_by_write s past at place writing may k.0 writer readers.items k.1 k.2 refl _ (shows_new s writing _ view refl) in
+        record {
+          kept = (
+            none_by_write s past at place writing may k.0 writer readers.items k.1 k.2 (finds s view of),
+            new.0,
+            subst (AreReaders s (touch place at.number writing ∷ past)) (sym empty) new.1,
+          );
+          rising = λ _ a b h. absurd (subst (Among a) empty h);
+        }
 
-    pub read_keeps : FindsLast table at known english hebrew (option_to_list writer) None → (left : List Access) → FindsApart table at known english hebrew readers.items left → (all : List Access) → all ≡ left ++ record { place = place; strand = at } ∷ [] → (new : Listed Access) → new.items ≡ all → KeepsOneMore table at place reading known english hebrew old (Clean writer new)
-    read_keeps finds left apart all more new items s past view may was =
-        let k = subst (IsKept s past) is was in
+    pub read_keeps : FindsLast table at known english hebrew (option_to_list writer) None → (new : Vec Access Global) (rise : Bool) → KeepsRead table (record { place = place; strand = at }) known english hebrew old.rise readers.items rise new.items
+        → KeepsOneMore table at place reading known english hebrew old (record { kept = Clean writer new; room = room; rise = rise })
+    read_keeps finds new rise keeps s past view may was =
+        let k = subst (IsKept s past) is was.kept in
         let order = kept_in_order s past at place reading may k.0 writer readers.items k.1 k.2 in
         let strands = strands_of s past at place reading may k.0 writer readers.items k.1 k.2 in
         let first : AreOf s (option_to_list writer) = record {
-          order = order_left (option_to_list writer) readers.items order;
+          order = in_order_left (option_to_list writer) readers.items order;
           strands = λ a h. strands a (among_left a (option_to_list writer) readers.items h);
         } in
-        let rest : AreOf s readers.items = record {
-          order = order_right (option_to_list writer) readers.items order;
-          strands = λ a h. strands a (among_right a (option_to_list writer) readers.items h);
-        } in (
-          none_by_read s past at place reading may k.0 writer readers.items k.1 k.2 refl (finds s view first),
-          writer_stays s past at place reading may k.0 writer readers.items k.1 k.2 refl,
-          subst (AreReaders s (touch place at.number reading ∷ past)) (sym (items ∙ more))
-              (kept_by_read s past at place reading may k.0 writer readers.items k.1 k.2 refl _ (shows_new s reading _ view refl) left (apart s view rest)),
-        )
+        let reads : AreReads s readers.items old.rise = record {
+          of = record {
+            order = order_right (option_to_list writer) readers.items order;
+            strands = λ a h. strands a (among_right a (option_to_list writer) readers.items h);
+          };
+          apart = readers_apart s past readers.items k.2;
+          rising = λ y. subst (λ (z : Kept). RiseInEnglish s (reads_of z)) is (was.rising y);
+        } in
+        let more = keeps s view reads (λ a h. (let r = k.2.each a h in let lt = may.rising.0 r.0 r.1.there in omega (arith, lt, r.2.place_is))) in
+        record {
+          kept = (
+            none_by_read s past at place reading may k.0 writer readers.items k.1 k.2 refl (finds s view first),
+            writer_stays s past at place reading may k.0 writer readers.items k.1 k.2 refl,
+            subst (AreReaders s (touch place at.number reading ∷ past)) (sym more.0.after_is)
+                (kept_by_read s past at place reading may k.0 writer readers.items k.1 k.2 refl _ (shows_new s reading _ view refl) more.0.left more.0.those),
+          );
+          rising = more.1;
+        }
 
 -- whoever knows the strands of what was kept, and the new one, knows those that are kept after a read
-pub strands_stay : (at : Strand) (place : ℕ) (old : Kept) (writer : Option Access) (readers : Listed Access) → old ≡ Clean writer readers → (left : List Access) → ((a : Access) → Among a left → Among a readers.items) → (all : List Access) → all ≡ left ++ record { place = place; strand = at } ∷ [] → (new : Listed Access) → new.items ≡ all → StrandsStay at old (Clean writer new)
-strands_stay at place old writer readers is left some all more new items known lt was a h =
+pub strands_stay : (at : Strand) (place : ℕ) (old : Kept) (writer : Option Access) (readers new : Vec Access Global) → old ≡ Clean writer readers → ((a : Access) → Among a new.items → Among a readers.items ⊎ (record { place = place; strand = at } ≡ a)) → StrandsStay at old (Clean writer new)
+strands_stay at place old writer readers new is those known lt was a h =
     let k = subst (AreKnown known) is was in
     elim (among_or a (option_to_list writer) new.items h) [
       | inl l ↦ k a (among_left a (option_to_list writer) readers.items l)
-      | inr r ↦ elim (among_or a left (record { place = place; strand = at } ∷ []) (subst (λ l. Among a l) (items ∙ more) r)) [
-        | inl l ↦ k a (among_right a (option_to_list writer) readers.items (some a l))
-        | inr (inl e) ↦ subst (λ (z : Access). z.strand.number < known) e lt
-        | inr (inr n) ↦ absurd n
-      ]
+      | inr r ↦ elim (those a r) [ inl l ↦ k a (among_right a (option_to_list writer) readers.items l) | inr e ↦ subst (λ (z : Access). z.strand.number < known) e lt ]
     ]
 
 -- of no accesses nothing is kept
-pub new_kept : (s : List Event) (readers : Listed Access) → readers.items ≡ [] → IsKept s [] (Clean None readers)
+pub new_kept : (s : List Event) (readers : Vec Access Global) → readers.items ≡ [] → IsKept s [] (Clean None readers)
 new_kept s readers empty = (
   (λ a b r. r.one),
   (λ t h. absurd h),
   subst (AreReaders s []) (sym empty) (record { each = λ a h. absurd h; whole = λ t l. absurd l.there; order = tt }),
 )
+
+pub new_log : (s : List Event) (readers : Vec Access Global) (room : ℕ) (rise : Bool) → readers.items ≡ [] → IsLogOf s [] (record { kept = Clean None readers; room = room; rise = rise })
+new_log s readers room rise empty = record { kept = new_kept s readers empty; rising = λ _ a b h. absurd (subst (Among a) empty h) }
+
+-- a log whose room alone is another
+pub log_same : (s : List Event) (past : List (Touch Kind)) (old new : Logged) → new.kept ≡ old.kept → new.rise ≡ old.rise → IsLogOf s past old → IsLogOf s past new
+log_same s past old new kept rise k =
+    record {
+      kept = subst (IsKept s past) (sym kept) k.kept;
+      rising = λ y. subst (λ (z : Kept). RiseInEnglish s (reads_of z)) (sym kept) (k.rising (sym rise ∙ y));
+    }

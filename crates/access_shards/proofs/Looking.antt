@@ -103,12 +103,6 @@ module _ (table : List Strand) (at : Strand) (known : ℕ) (english hebrew : Lis
       (subst (λ n. KeepsApart table at known' n hebrew a old new) e
       (subst (λ n. KeepsApart table at known' english' n a old new) h l))
 
-  pub finds_apart_at : (known' : ℕ) (english' hebrew' : List ℕ) (all left : List Access) → known' ≡ known → english' ≡ english → hebrew' ≡ hebrew → FindsApart table at known' english' hebrew' all left → FindsApart table at known english hebrew all left
-  finds_apart_at known' english' hebrew' all left k e h l =
-      subst (λ n. FindsApart table at n english hebrew all left) k
-      (subst (λ n. FindsApart table at known' n hebrew all left) e
-      (subst (λ n. FindsApart table at known' english' n all left) h l))
-
   pub none_apart : FindsApart table at known english hebrew [] []
   none_apart s view of = record { those = λ b. ((λ h. absurd h), λ k. k.0); order = tt }
 

@@ -80,13 +80,6 @@ AreKnown known (Found first second) = Unit {0}
 abbrev pub StrandsStay : Strand → Kept → Kept → Type 0
 StrandsStay at old new = (known : ℕ) → at.number < known → AreKnown known old → AreKnown known new
 
--- for any structural events of which this is a view, and accesses of a cell after which one more may come: where the first
--- was kept of them, the second is kept of them and that one
-abbrev pub KeepsOneMore : List Strand → Strand → ℕ → Kind → ℕ → List ℕ → List ℕ → Kept → Kept → Type 0
-KeepsOneMore table at place kind known english hebrew old new =
-    (s : List Event) (past : List (Touch Kind)) → IsViewOf s table at known english hebrew → MayCome s past at place kind
-    → IsKept s past old → IsKept s (touch place at.number kind ∷ past) new
-
 -- nothing is kept of a cell without accesses
 abbrev pub IsNew : Kept → Type 0
 IsNew (Clean writer readers) = (writer ≡ None) × (readers.items ≡ [])

@@ -11,6 +11,7 @@ use Rattle.access_shards.specs.declared.kept.Kept.{Kept}
 use Rattle.access_shards.specs.declared.kept.Kept.TheVariants.{Clean, Found}
 use Rattle.access_shards.specs.Touches.{Touch, Kinds, WritesConflict, IsRising, IsLate, AreRacing, HasNoRace, IsFirstPair, MustBeKept, IsGreatestPartner}
 use Rattle.access_shards.specs.Kept.{Kind, kinds, IsKept, MayCome, touch}
+use Rattle.access_shards.specs.Logged.{Logged, IsLogOf}
 use Rattle.access_shards.specs.Histories.{touches_of, IsInStep}
 
 -- while there was no race, the greatest partner of a further access is the greatest one of those that must be kept,
@@ -28,6 +29,10 @@ AreOn s past = (t : Touch Kind) → Among t past → t.strand < next_strand (rev
 -- with further structural events the same is kept
 abbrev pub KeptStays : Type 0
 KeptStays = (s more : List Event) (past : List (Touch Kind)) (kept : Kept) → IsSound (s ++ more) → AreOn s past → IsKept s past kept → IsKept (s ++ more) past kept
+
+-- and the log of some accesses is still their log
+abbrev pub LogStays : Type 0
+LogStays = (s more : List Event) (past : List (Touch Kind)) (l : Logged) → IsSound (s ++ more) → AreOn s past → IsLogOf s past l → IsLogOf (s ++ more) past l
 
 -- and still no path leads from an access to another strand of an earlier one
 abbrev pub LateStays : Type 0

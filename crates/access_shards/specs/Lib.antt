@@ -3,4 +3,5 @@ pub mod Histories
 pub mod Kept
 pub mod Laws
 pub mod Logged
+pub mod Reading
 pub mod Touches

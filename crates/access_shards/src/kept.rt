@@ -1,5 +1,4 @@
 //! What is remembered of one cell.
-use fut_base::list::Listing;
 use strand_tree::Strand;
 
 /// An access that is remembered: its place in the history, and the strand on which it stands.
@@ -10,7 +9,7 @@ pub struct Access {
 }
 
 /// Accesses in the order of their places.
-pub type Accesses = Listing<Access>;
+pub type Accesses = Vec<Access>;
 
 /// What is remembered of the accesses of one cell.
 #[derive(Drop)]

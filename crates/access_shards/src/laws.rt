@@ -2,7 +2,7 @@
 ghost use Rattle.std.specs.Prelude.{ℕ};
 ghost use Rattle.access_shards.specs.Touches.{Kinds};
 ghost use Rattle.access_shards.specs.Kept.{Kind, kinds};
-ghost use Rattle.access_shards.specs.Laws.{KeptIsEnough, KeptStays, LateStays, CurrentMayCome, NoPathBack, AccessesAreLate, RacesAreOfAccesses, FirstPairIsOfAccesses, KeptTellsRaces};
+ghost use Rattle.access_shards.specs.Laws.{KeptIsEnough, KeptStays, LogStays, LateStays, CurrentMayCome, NoPathBack, AccessesAreLate, RacesAreOfAccesses, FirstPairIsOfAccesses, KeptTellsRaces};
 
 /// While there was no race, the greatest partner of a further access is the greatest one of those that must be kept. The
 /// kinds of access are any numbers here: all that the law asks of them is that a write conflicts with each.
@@ -18,6 +18,11 @@ pub fn kept_is_enough_of_two()
 /// With further structural events the same is kept.
 pub fn kept_stays()
     ensures { KeptStays }
+{}
+
+/// And the log of some accesses is still their log.
+pub fn log_stays()
+    ensures { LogStays }
 {}
 
 /// With further structural events no path leads from an access to another strand of an earlier one either.

@@ -1,112 +1,186 @@
 //! What is kept in worked runs.
-ghost use Rattle.std.specs.Prelude.{◌≡◌, ◌+◌, ◌≤◌, OnOk};
+ghost use Rattle.std.specs.Prelude.{length, OnOk};
+ghost use Rattle.access_shards.specs.Kept.{AreKnown};
 
 use crate::kept::{Access, Kept};
 use crate::log::CellLog;
 use order_list::Still;
 use reach_table::Reach;
 use std::alloc::Global;
+use std::process::Abort;
 use std::test::Fail;
-use strand_tree::{Strand, root, spawn, sync};
+use strand_tree::Strand;
 
-// A strand of the root's future.
-fn at(number: u32) -> Strand
-    ensures { result.number ≡ number }
-{
-    Strand { number, future: 0 }
-}
+mod plain;
+mod worked;
 
-fn access(place: u32, number: u32) -> Access {
-    Access {
-        place,
-        strand: at(number),
+use plain::{Plain, Touch, recompute};
+use worked::{Step, Worked, are_known, work};
+
+fn read(strand: usize) -> Touch {
+    Touch {
+        strand,
+        writes: false,
     }
 }
 
-// Spawns a child on strand `at`.
-fn child(still: &mut Still, at: Strand) -> Result<(Strand, Strand), Fail>
-    requires { 2 ≤ still.old.english.room }
-    ensures { OnOk result (still.new.english.room + 2 ≡ still.old.english.room) }
+fn write(strand: usize) -> Touch {
+    Touch {
+        strand,
+        writes: true,
+    }
+}
+
+// Keeps an access on a strand with this table.
+fn keep(
+    log: &mut CellLog,
+    still: &mut Still,
+    at: Strand,
+    reach: &Reach,
+    place: u32,
+    writes: bool,
+) -> Result<(), Fail>
+    requires { AreKnown (length still.old.english.order) log.old.kept }
+    ensures { OnOk result (AreKnown (length still.new.english.order) log.new.kept) }
 {
-    if at.number >= still.english().len() || at.number >= still.hebrew().len() {
+    if at.number >= still.english().len() {
         return Err("no such strand")?;
     }
-    Ok(spawn(still, at))
-}
-
-// The log of a cell with these reads and then, if there is one, a write: at places, on strands of the root's future.
-fn log_of(
-    alloc: Global,
-    still: &mut Still,
-    reads: &[(u32, u32)],
-    write: Option<(u32, u32)>,
-) -> Result<CellLog, Fail> {
-    let none = Reach::empty(alloc);
-    let mut log = CellLog::make(alloc);
-    for (place, number) in reads {
-        if *number >= still.english().len() {
-            return Err("no such strand")?;
-        }
-        log.reserve()?;
-        log.read(still, &none, at(*number), *place)?;
-    }
-    let Some((place, number)) = write else {
-        return Ok(log);
-    };
-    if number >= still.english().len() {
+    if !are_known(still, reach.strands()) {
         return Err("no such strand")?;
     }
     log.reserve()?;
-    log.write(still, &none, at(number), place)?;
-    Ok(log)
-}
-
-// Whether no write and just these reads are kept.
-fn keeps_reads(kept: &Kept, reads: &[Access]) -> bool {
-    match kept {
-        Kept::Clean { writer, readers } => writer.is_none() && readers.as_slice() == reads,
-        Kept::Found { .. } => false,
+    if writes {
+        log.write(still, reach, at, place)?;
+        return Ok(());
     }
-}
-
-fn keeps_pair(kept: &Kept, pair: (u32, u32)) -> bool {
-    match kept {
-        Kept::Clean { .. } => false,
-        Kept::Found { first, second } => (*first, *second) == pair,
-    }
-}
-
-// Three spawned children read a cell, and a fourth writes it.
-#[test]
-fn parallel_reads_are_kept(rt: HostRuntime) -> Result<(), Fail> {
-    let mut still = Still::make(rt.alloc(), 9)?;
-    let (first, rest) = child(&mut still, root())?;
-    let (second, rest) = child(&mut still, rest)?;
-    let (third, rest) = child(&mut still, rest)?;
-    let (fourth, _) = child(&mut still, rest)?;
-    let strands = [first.number, second.number, third.number, fourth.number];
-    assert_eq!(rt; strands, [1, 3, 5, 7]);
-    let reads = [(1, 1), (4, 3), (7, 5)];
-    let before = log_of(rt.alloc(), &mut still, &reads, None)?;
-    assert!(rt; keeps_reads(before.kept(), &[access(1, 1), access(4, 3), access(7, 5)]));
-    let after = log_of(rt.alloc(), &mut still, &reads, Some((10, 7)))?;
-    assert!(rt; keeps_pair(after.kept(), (7, 10)));
+    log.read(still, reach, at, place)?;
     Ok(())
 }
 
-// A child reads a cell, syncs and reads it again, and another child writes it.
+// The log of a cell with these accesses, at places from 0 on.
+fn log_of(
+    alloc: Global,
+    still: &mut Still,
+    run: &Worked,
+    touches: &[Touch],
+) -> Result<CellLog, Fail> {
+    let mut log = CellLog::make(alloc);
+    let mut place = 0u32;
+    for touch in touches {
+        let (Some(at), Some(reach)) = (run.strands.get(touch.strand), run.tables.get(touch.strand))
+        else {
+            return Err("no such strand")?;
+        };
+        keep(&mut log, still, *at, reach, place, touch.writes)?;
+        place = place.saturating_add(1);
+    }
+    Ok(log)
+}
+
+// What is kept, by place.
+fn places_of(alloc: Global, kept: &Kept) -> Result<Plain, Fail> {
+    match kept {
+        Kept::Clean { writer, readers } => {
+            let mut places = Vec::new(alloc);
+            for reader in readers {
+                places.push(reader.place as usize)?;
+            }
+            Ok(Plain::Clean {
+                writer: writer.map(|a| a.place as usize),
+                readers: places,
+            })
+        }
+        Kept::Found { first, second } => Ok(Plain::Found {
+            first: *first as usize,
+            second: *second as usize,
+        }),
+    }
+}
+
+// What a log keeps of these accesses in the run of these steps, and what has to be kept.
+fn both(alloc: Global, steps: &[Step], touches: &[Touch]) -> Result<(Plain, Plain), Fail> {
+    let (mut still, run) = work(alloc, steps)?;
+    let log = log_of(alloc, &mut still, &run, touches)?;
+    let expected = recompute(alloc, run.edges.as_slice(), run.strands.len(), touches)?;
+    Ok((places_of(alloc, log.kept())?, expected))
+}
+
 #[test]
-fn a_later_read_on_a_path_is_kept_alone(rt: HostRuntime) -> Result<(), Fail> {
-    let mut still = Still::make(rt.alloc(), 6)?;
-    let (reader, rest) = spawn(&mut still, root());
-    assert_eq!(rt; (reader, rest), (at(1), at(2)));
-    assert_eq!(rt; sync(&mut still, reader, None), at(3));
-    let (writer, _) = child(&mut still, rest)?;
-    assert_eq!(rt; writer, at(4));
-    let reads = [(1, 1), (3, 3)];
-    let before = log_of(rt.alloc(), &mut still, &reads, None)?;
-    assert!(rt; keeps_reads(before.kept(), &[access(3, 3)]));
-    let after = log_of(rt.alloc(), &mut still, &reads, Some((6, 4)))?;
-    assert!(rt; keeps_pair(after.kept(), (3, 6)));
+fn many_spawned_children_read(rt: HostRuntime) -> Result<(), Fail> {
+    let mut steps = Vec::new(rt.alloc());
+    let mut touches = Vec::new(rt.alloc());
+    for k in 0..2000 {
+        steps.push(Step::Spawn(2 * k))?;
+        touches.push(read(2 * k + 1))?;
+    }
+    let (kept, expected) = both(rt.alloc(), steps.as_slice(), touches.as_slice())?;
+    assert!(rt; kept == expected);
+    touches.push(write(4000))?;
+    let (kept, expected) = both(rt.alloc(), steps.as_slice(), touches.as_slice())?;
+    assert_eq!(rt; kept, expected);
+    let pair = Plain::Found {
+        first: 1999,
+        second: 2000,
+    };
+    assert_eq!(rt; kept, pair);
+    Ok(())
+}
+
+// Whether a log keeps what has to be kept, after each of these accesses.
+fn keeps_all(alloc: Global, steps: &[Step], touches: &[Touch]) -> Result<bool, Fail> {
+    for end in 0..touches.len() {
+        let (kept, expected) = both(alloc, steps, &touches[..=end])?;
+        if kept != expected {
+            return Ok(false);
+        }
+    }
+    Ok(true)
+}
+
+#[test]
+fn what_is_kept_is_the_definitions(rt: HostRuntime) -> Result<(), Fail> {
+    use Step::{Create, Spawn, Sync};
+    // Three children, in the English order and in others, and one strand again.
+    let three = [Spawn(0), Spawn(2), Spawn(4)];
+    let in_order = [read(1), read(3), read(3), read(5), read(6), write(6)];
+    assert!(rt; keeps_all(rt.alloc(), &three, &in_order)?);
+    let out_of_order = [read(5), read(1), read(3), read(6), write(6)];
+    assert!(rt; keeps_all(rt.alloc(), &three, &out_of_order)?);
+    let back_and_on = [read(3), read(5), read(1), read(6), write(6)];
+    assert!(rt; keeps_all(rt.alloc(), &three, &back_and_on)?);
+    // A sync drops the reads of its own children: 5 and 6, but not 1.
+    let nested = [Spawn(0), Spawn(2), Spawn(3), Sync { at: 6, last: 5 }];
+    let serial = [read(1), read(5), read(6), read(7), read(4), write(7)];
+    assert!(rt; keeps_all(rt.alloc(), &nested, &serial)?);
+    let mixed = [read(5), read(4), read(6), read(1), read(7), write(7)];
+    assert!(rt; keeps_all(rt.alloc(), &nested, &mixed)?);
+    // A write in the middle.
+    let joined = [Spawn(0), Sync { at: 2, last: 1 }, Spawn(3)];
+    let written = [
+        read(2),
+        read(1),
+        write(3),
+        read(3),
+        read(4),
+        read(5),
+        write(5),
+    ];
+    assert!(rt; keeps_all(rt.alloc(), &joined, &written)?);
+    // Three futures: a read drops that of a future's maker.
+    let futures = [Create(0), Create(2), Spawn(1)];
+    let across = [
+        read(0),
+        read(1),
+        read(2),
+        read(3),
+        read(4),
+        read(5),
+        read(6),
+        write(6),
+    ];
+    assert!(rt; keeps_all(rt.alloc(), &futures, &across)?);
+    let back = [read(4), read(3), read(1), read(6), read(5), write(4)];
+    assert!(rt; keeps_all(rt.alloc(), &futures, &back)?);
     Ok(())
 }

@@ -1,13 +1,16 @@
 //! Worked runs, by the call that `main` makes.
+use crate::outcome::outcome_of;
 use crate::status::{Ended, Status};
 use crate::top::{forder, plain};
-use crate::words::Words;
+use crate::words::{Command, Words};
 use fut_base::gate::FreeGate;
 use fut_base::memory::{MemSink, MemSource};
 use fut_base::ports::{Put, Sink, Source, Took};
 use fut_base::record::Finish;
 use fut_base::standard::{StdSink, StdSource};
+use race_report::found_of;
 use std::alloc::Global;
+use std::process::Abort;
 use std::test::Fail;
 
 /// The words for a run.
@@ -118,6 +121,28 @@ fn ends_in(answer: &Answer, tail: &str) -> bool {
     answer.text.as_slice().ends_with(tail.as_bytes())
 }
 
+/// Asserts that the races of a run of so many entries, at most 15, are after each of them those that a search for paths finds.
+fn assert_races_as_searched(
+    rt: &impl Abort,
+    alloc: Global,
+    text: &str,
+    entries: usize,
+) -> Result<(), Fail> {
+    let bytes = text.as_bytes();
+    assert!(rt; bytes.len() <= 4096);
+    assert!(rt; entries < 16);
+    for events in 1..entries as u32 + 1 {
+        let outcome = outcome_of(alloc, Command::Run { events }, bytes);
+        assert!(rt; outcome.history.len() <= 16);
+        let found = found_of(alloc, &outcome.history)?;
+        assert!(rt;
+            found.as_slice() == outcome.races.as_slice(),
+            "{text}, {events} entries"
+        );
+    }
+    Ok(())
+}
+
 #[test]
 fn worked_runs(rt: HostRuntime) -> Result<(), Fail> {
     let cases = [
@@ -173,6 +198,7 @@ fn worked_runs(rt: HostRuntime) -> Result<(), Fail> {
     for (text, tail) in cases {
         let answer = call_forder(rt.alloc(), &SERIAL, text, 4096, &[], &[])?;
         assert!(rt; ends_in(&answer, tail), "{text}");
+        assert_races_as_searched(&rt, rt.alloc(), text, answer.entries)?;
     }
     Ok(())
 }

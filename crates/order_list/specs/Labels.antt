@@ -1,9 +1,10 @@
 -- Where a new item finds its label, and which labels a relabelling gives.
-use Rattle.std.specs.Prelude.{◌≡◌, ℕ, ◌+◌, ◌-◌, ◌*◌, ◌/◌, ◌^◌, nat_lt, if◌then◌else◌, List, [], ◌∷◌, ◌++◌, length, slice_index, unwrap_or}
+use Rattle.std.specs.Prelude.{◌≡◌, ℕ, ◌+◌, ◌-◌, ◌*◌, ◌/◌, ◌%◌, ◌^◌, ◌<◌, ◌≤◌, nat_lt, Bool, false, not, ◌&&◌, if◌then◌else◌, List, [], ◌∷◌, ◌++◌, length, slice_index, unwrap_or}
+use Rattle.std.specs.List.{filter}
 use Rattle.order_list.specs.declared.place.Window.{Window}
 use Rattle.order_list.specs.declared.place.Place.{Place}
 use Rattle.order_list.specs.declared.place.Place.TheVariants.{Label, Relabel}
-use Rattle.order_list.specs.Ordered.{Ordered, put_after, head_of, high_of, high_by, next_of}
+use Rattle.order_list.specs.Ordered.{Ordered, put_after, head_of, high_of, high_by, next_of, is_in}
 
 -- the label halfway between two
 abbrev pub middle_of : ℕ → ℕ → ℕ
@@ -16,27 +17,66 @@ place_between low high = if nat_lt (high - low) 2 then Relabel else Label (middl
 abbrev pub place_of : Ordered → ℕ → Place
 place_of l x = place_between (slice_index l.labels x) (high_of l x)
 
--- the distance of n labels that are spread evenly below 2^62
-abbrev pub gap_of : ℕ → ℕ
-gap_of n = 2 ^ 62 / (n + 1)
+-- the first label of the window of 2^i labels that has the label: the greatest multiple of 2^i that is not above it
+abbrev pub base_of : ℕ → ℕ → ℕ
+base_of i label = label - label % 2 ^ i
+
+-- the label is from `low` on and below `high`
+abbrev pub is_between : ℕ → ℕ → ℕ → Bool
+is_between low high label = not (nat_lt label low) && nat_lt label high
+
+-- the items, in order, that have labels in the window of 2^i labels at x
+abbrev pub members : List ℕ → List ℕ → ℕ → ℕ → List ℕ
+members labels order x i =
+    let base = base_of i (slice_index labels x) in filter (λ y. is_between base (base + 2 ^ i) (slice_index labels y)) order
+
+-- so few items may share the 2^i labels of a window: at most 1.5^i
+abbrev pub IsSparse : ℕ → ℕ → Type 0
+IsSparse i n = n * 2 ^ i ≤ 3 ^ i
+
+-- the window of 2^i labels at x is the least sparse one
+pub record IsLeastSparse (labels order : List ℕ) (x i : ℕ) : Type 0 where
+  pub some : 1 ≤ i
+  pub most : i ≤ 62
+  pub sparse : IsSparse i (length (members labels order x i))
+  pub least : (j : ℕ) → 1 ≤ j → j < i → IsSparse j (length (members labels order x j)) → ⊥
+
+-- how far apart n items stand that are spread evenly over 2^i labels
+abbrev pub gap_of : ℕ → ℕ → ℕ
+gap_of i n = 2 ^ i / n
+
+-- what a relabelling in the window of 2^i labels at x takes
+abbrev pub window_at : List ℕ → List ℕ → ℕ → ℕ → Window
+window_at labels order x i =
+    let items = members labels order x i in
+    record { first = record { 0 = unwrap_or (head_of items) 0 }; items = length items; base = base_of i (slice_index labels x); gap = gap_of i (length items) }
+
+-- what a relabelling at x takes: the least sparse window
+pub record IsWindowOf (labels order : List ℕ) (x : ℕ) (w : Window) : Type 0 where
+  pub size : ℕ
+  pub least : IsLeastSparse labels order x size
+  pub is : w ≡ window_at labels order x size
 
 -- from the k-th item on, the items have the labels base + k * gap, base + (k + 1) * gap and so on
 abbrev pub IsSpaced : List ℕ → ℕ → ℕ → ℕ → List ℕ → Type 0
 IsSpaced labels base gap k [] = Unit {0}
 IsSpaced labels base gap k (x ∷ xs) = (slice_index labels x ≡ base + k * gap) × IsSpaced labels base gap (k + 1) xs
 
--- what a relabelling at x takes: the whole list, spread evenly
-abbrev pub window_of : Ordered → ℕ → Window
-window_of l x =
-    record { first = record { 0 = unwrap_or (head_of l.order) 0 }; items = length l.order; base = gap_of (length l.order); gap = gap_of (length l.order) }
+-- the labels after a relabelling at x: the items of the least sparse window are spread evenly over it, and the other
+-- labels stay
+pub record IsSpread (labels order : List ℕ) (x : ℕ) (spread : List ℕ) : Type 0 where
+  pub size : ℕ
+  pub least : IsLeastSparse labels order x size
+  pub counted : length spread ≡ length labels
+  pub spaced : let items = members labels order x size in IsSpaced spread (base_of size (slice_index labels x)) (gap_of size (length items)) 0 items
+  pub others : (y : ℕ) → is_in y (members labels order x size) ≡ false → slice_index spread y ≡ slice_index labels y
 
 -- the labels after an item was put after x: those from before with the place's label, or those of a relabelling with
 -- one in the middle
 abbrev pub LabelsBy : Ordered → ℕ → List ℕ → Place → Type 0
 LabelsBy old x labels (Label l) = labels ≡ old.labels ++ l ∷ []
 LabelsBy old x labels Relabel =
-    let w = window_of old x in
-    (spread : List ℕ) × (length spread ≡ length old.order) × IsSpaced spread w.base w.gap 0 old.order
+    (spread : List ℕ) × IsSpread old.labels old.order x spread
     × (labels ≡ spread ++ middle_of (slice_index spread x) (high_by spread (next_of x old.order)) ∷ [])
 
 abbrev pub LabelsAfter : Ordered → ℕ → List ℕ → Type 0

@@ -2,3 +2,4 @@ pub mod Chain
 pub mod Labels
 pub mod Ordered
 pub mod Sides
+pub mod Spans

@@ -1,5 +1,5 @@
 -- What an order list shows, and the words for lists of items.
-use Rattle.std.specs.Prelude.{◌≡◌, ℕ, ◌+◌, ◌^◌, ◌<◌, ◌==◌, Bool, true, false, not, ◌&&◌, if◌then◌else◌, List, [], ◌∷◌, ◌++◌, Option, Some, None, slice_index, length}
+use Rattle.std.specs.Prelude.{◌≡◌, ℕ, ◌+◌, ◌^◌, ◌<◌, ◌≤◌, ◌==◌, Bool, true, false, not, ◌&&◌, if◌then◌else◌, List, [], ◌∷◌, ◌++◌, Option, Some, None, slice_index, length}
 use Rattle.std.specs.List.{list_any}
 
 -- a list's items in order, the label of each item by its number, and for how many more it has room
@@ -55,13 +55,14 @@ pub record IsNumbered (order : List ℕ) : Type 0 where
   pub below : AllBelow (length order) order
   pub whole : (x : ℕ) → x < length order → is_in x order ≡ true
 
--- labels strictly rise along the list, above `low` and below 2^62
-abbrev pub Rises : List ℕ → ℕ → List ℕ → Type 0
-Rises labels low [] = Unit {0}
-Rises labels low (x ∷ xs) = (low < slice_index labels x) × (slice_index labels x < 2 ^ 62) × Rises labels (slice_index labels x) xs
+-- labels strictly rise along the list, from `low` on and below `high`
+abbrev pub Rises : List ℕ → ℕ → ℕ → List ℕ → Type 0
+Rises labels low high [] = Unit {0}
+Rises labels low high (x ∷ xs) = (low ≤ slice_index labels x) × (slice_index labels x < high) × Rises labels (slice_index labels x + 1) high xs
 
--- what every list keeps: its items are the numbers below their count, each with a label, and labels rise along it
+-- what every list keeps: its items are the numbers below their count, each with a label, and labels below 2^62 rise along
+-- it
 pub record IsKept (l : Ordered) : Type 0 where
   pub numbered : IsNumbered l.order
   pub counted : length l.labels ≡ length l.order
-  pub rises : Rises l.labels 0 l.order
+  pub rises : Rises l.labels 0 (2 ^ 62) l.order

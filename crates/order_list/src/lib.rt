@@ -2,6 +2,7 @@
 //! above ask of two such orders.
 //!
 //! An `OrderList` gives each item a number as its label, so that labels rise along the list (Dietz and Sleator 1987).
+//! Where two labels leave no room for one between them, those around the place alone are made anew: see `OrderList`.
 //! `Placer` is whatever puts new items into an English and a Hebrew list, and `Judge` whatever tells in which order two
 //! items stand there; `Still` is both, over two lists on one thread.
 #![tactic(auto)]
@@ -11,10 +12,12 @@ mod judge;
 mod list;
 mod place;
 mod placer;
+mod span;
 mod spread;
 mod still;
 #[cfg(test)]
 mod tests;
+mod window;
 
 pub use item::Item;
 pub use judge::{Judge, Moved, Sides};

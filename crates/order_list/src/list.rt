@@ -1,11 +1,13 @@
 //! The list of items with their labels.
-ghost use Rattle.std.specs.Prelude.{◌≡◌, ◌+◌, ◌^◌, ◌<◌, ◌≤◌, [], ◌∷◌, ◌++◌, length, IfOk, slice_index, option_map};
+ghost use Rattle.std.specs.Prelude.{◌≡◌, ℕ, ◌+◌, ◌^◌, ◌<◌, ◌≤◌, [], ◌∷◌, ◌++◌, length, IfOk, Some, slice_index, option_map, vec_len, vec_capacity};
 ghost use Rattle.order_list.specs.Ordered.{Ordered, put_after, stands_before, next_of, high_of, IsFresh, IsKept};
-ghost use Rattle.order_list.specs.Labels.{place_of, middle_of, window_of, gap_of, IsSpaced, LabelsAfter};
+ghost use Rattle.order_list.specs.Chain.{with_prev};
+ghost use Rattle.order_list.specs.Labels.{place_of, middle_of, IsWindowOf, IsSpread, LabelsAfter};
 
 use crate::item::Item;
 use crate::place::{Place, Window};
-use crate::spread::spread;
+use crate::spread::relabel;
+use crate::window::window;
 use std::alloc::Global;
 use std::marker::Model;
 
@@ -17,10 +19,18 @@ const END: u64 = 1 << 62;
 
 /// A list of items with item 0 first. Contracts see the items in order, their labels by number, and for how many more
 /// items it has room. Labels are below 2^62.
+///
+/// Where the labels of x and the next item leave no room between them, labels are made anew in a window of labels at x.
+/// For i from 1 to 62 the window of size 2^i begins at the greatest multiple of 2^i that is not above the label of x; it
+/// is sparse where at most 1.5^i items have labels in it. The least sparse window is taken: its items are spread evenly
+/// over it, and no other label changes. The rule is that of Bender, Cole, Demaine, Farach-Colton and Zito 2002, by which
+/// many inserts make a logarithmic number of labels anew each, on average; which labels result is proved, that bound is
+/// not.
 #[derive(Drop)]
 pub struct OrderList {
     labels: Vec<u64>,
     nexts: Vec<Option<u32>>,
+    prevs: Vec<Option<u32>>,
     room: u32,
 }
 
@@ -33,9 +43,10 @@ impl Model for OrderList {
 
     ghost view = { λ l. record { order = walk l.nexts.items (vec_len l.nexts) (Some 0); labels = l.labels.items; room = l.room } };
 
-    ghost invariant = { λ l. Keeps l.labels.items l.nexts.items (walk l.nexts.items (vec_len l.nexts) (Some 0))
+    ghost invariant = { λ l. Keeps l.labels.items l.nexts.items l.prevs.items (walk l.nexts.items (vec_len l.nexts) (Some 0))
         × (vec_len l.labels + l.room ≤ vec_capacity l.labels)
         × (vec_len l.nexts + l.room ≤ vec_capacity l.nexts)
+        × (vec_len l.prevs + l.room ≤ vec_capacity l.prevs)
         × (vec_len l.nexts + l.room < 2 ^ 32) };
 }
 
@@ -49,11 +60,15 @@ impl OrderList {
         labels.reserve(capacity as usize)?;
         let mut nexts = Vec::new(alloc);
         nexts.reserve(capacity as usize)?;
+        let mut prevs = Vec::new(alloc);
+        prevs.reserve(capacity as usize)?;
         labels.push_reserved(END / 2);
         nexts.push_reserved(None);
+        prevs.push_reserved(None);
         Ok(OrderList {
             labels,
             nexts,
+            prevs,
             room: capacity - 1,
         })
     }
@@ -110,23 +125,21 @@ impl OrderList {
         }
     }
 
-    /// The items and labels of a relabelling at x: the whole list.
+    /// The items and labels of a relabelling at x: the least sparse window.
     pub fn window(&self, x: Item) -> Window
         requires { x.0 < length self.now.order }
-        ensures { result ≡ window_of self.now x.0 }
+        ensures { IsWindowOf self.now.labels self.now.order x.0 result }
     {
-        let items = self.nexts.len() as u32;
-        let gap = self.gap();
-        Window {
-            first: Item(0),
-            items,
-            base: gap,
-            gap,
-        }
+        window(
+            self.labels.as_slice(),
+            self.nexts.as_slice(),
+            self.prevs.as_slice(),
+            x.0,
+        )
     }
 
-    /// Puts a new item right after x. Where there is no label between, all labels are made anew first. It takes no
-    /// memory.
+    /// Puts a new item right after x. Where there is no label between, those of the least sparse window are made
+    /// anew first. It takes no memory.
     pub fn insert_after(&mut self, x: Item) -> Item
         requires x_in { x.0 < length self.old.order }
         requires room { 1 ≤ self.old.room }
@@ -141,7 +154,7 @@ impl OrderList {
         match self.place_after(x) {
             Place::Label(label) => self.link(x, label),
             Place::Relabel => {
-                self.relabel();
+                self.relabel(x);
                 let label = self.middle(x);
                 self.link(x, label)
             }
@@ -173,25 +186,22 @@ impl OrderList {
         low + (self.high_after(x) - low) / 2
     }
 
-    // The distance of labels that are spread evenly.
-    fn gap(&self) -> u64
-        ensures { result ≡ gap_of (length self.now.order) }
-    {
-        END / (u64::from(self.len()) + 1)
-    }
-
-    // Spreads the labels evenly.
-    fn relabel(&mut self)
+    // Spreads the labels of the least sparse window at x.
+    fn relabel(&mut self, x: Item)
+        requires { x.0 < length self.old.order }
         ensures order { self.new.order ≡ self.old.order }
         ensures room { self.new.room ≡ self.old.room }
-        ensures labels { IsSpaced self.new.labels (gap_of (length self.old.order)) (gap_of (length self.old.order)) 0 self.old.order }
-        ensures counted { length self.new.labels ≡ length self.old.order }
+        ensures labels { IsSpread self.old.labels self.old.order x.0 self.new.labels }
+        ensures between { slice_index self.new.labels x.0 + 2 ≤ high_of self.new x.0 }
         // What every list keeps.
-        ensures few { length self.old.order < 2 ^ 32 }
         ensures was_kept { IsKept self.old }
     {
-        let gap = self.gap();
-        spread(self.labels.as_mut_slice(), self.nexts.as_slice(), gap);
+        relabel(
+            self.labels.as_mut_slice(),
+            self.nexts.as_slice(),
+            self.prevs.as_slice(),
+            x.0,
+        );
     }
 
     // Puts an item right after x, with a label that is free there.
@@ -212,7 +222,21 @@ impl OrderList {
         self.labels.push_reserved(label);
         self.nexts.push_reserved(next);
         self.nexts[x.0 as usize] = Some(item);
+        self.prevs.push_reserved(Some(x.0));
+        lead_back(&mut self.prevs, next, item);
         self.room -= 1;
         Item(item)
+    }
+}
+
+// Lets the next item, if there is one, lead back to an item.
+fn lead_back(prevs: &mut Vec<Option<u32>>, next: Option<u32>, item: u32)
+    requires { (y : ℕ) → next ≡ Some y → y < vec_len prevs.old }
+    ensures items { prevs.new.items ≡ with_prev prevs.old.items next item }
+    ensures len { vec_len prevs.new ≡ vec_len prevs.old }
+    ensures capacity { vec_capacity prevs.new ≡ vec_capacity prevs.old }
+{
+    if let Some(y) = next {
+        prevs[y as usize] = Some(item);
     }
 }

@@ -53,21 +53,85 @@ fn the_last_insert_stands_first(rt: HostRuntime) -> Result<(), Fail> {
 
 #[test]
 fn labels_are_made_anew(rt: HostRuntime) -> Result<(), Fail> {
-    let gap = 73_201_365_371_863_300;
+    // Item k has the label 2^61 + 2^(61 - k) after 61 inserts. The window of 8 labels has the items 0, 61, 60 and 59, and
+    // at most 3 may share it; that of 16 has item 58 too, and at most 5 may share it.
     let mut list = after_inserts(rt.alloc(), 61)?;
     let window = Window {
         first: Item(0),
-        items: 62,
-        base: gap,
-        gap,
+        items: 5,
+        base: 1 << 61,
+        gap: 3,
     };
     assert_eq!(rt; list.window(Item(0)), window);
     assert_eq!(rt; list.insert_after(Item(0)), Item(62));
     assert_eq!(rt; list.next(Item(0)), Some(Item(62)));
-    assert_eq!(rt; list.label(Item(0)), gap);
-    assert_eq!(rt; list.label(Item(62)), 109_802_048_057_794_950);
-    assert_eq!(rt; list.label(Item(61)), 146_402_730_743_726_600);
-    assert_eq!(rt; list.label(Item(1)), 62 * gap);
+    let labels = [
+        (0, 0),
+        (62, 1),
+        (61, 3),
+        (60, 6),
+        (59, 9),
+        (58, 12),
+        (57, 16),
+        (56, 32),
+        (1, 1 << 60),
+    ];
+    for (item, above) in labels {
+        assert_eq!(rt; list.label(Item(item)), (1 << 61) + above, "item {item}");
+    }
+    Ok(())
+}
+
+// A list of 20,000 items, each put after item 0, and then of 20,000 more, each put after the one made before it.
+fn long_list(alloc: Global) -> Result<OrderList, NoMemory>
+    ensures { IfOk result (λ list. length list.order ≡ 40001) }
+{
+    let mut list = OrderList::make(alloc, 40_001)?;
+    for _k in 0..20_000u32 {
+        list.insert_after(Item(0));
+    }
+    for k in 0..20_000u32 {
+        list.insert_after(Item(20_000 + k));
+    }
+    Ok(list)
+}
+
+// The items of that list in order.
+fn long_order(alloc: Global) -> Result<Vec<u32>, NoMemory> {
+    let mut order = Vec::new(alloc);
+    order.push(0)?;
+    for k in 20_000..40_001u32 {
+        order.push(k)?;
+    }
+    for k in 1..20_000u32 {
+        order.push(20_000 - k)?;
+    }
+    Ok(order)
+}
+
+// Whether the items at two places of the order stand so in the list.
+fn agrees(list: &OrderList, order: &[u32], a: usize, b: usize) -> bool {
+    match (order.get(a), order.get(b)) {
+        (Some(x), Some(y)) => {
+            *x < list.len() && *y < list.len() && list.before(Item(*x), Item(*y)) == (a < b)
+        }
+        _ => false,
+    }
+}
+
+#[test]
+fn a_long_list_keeps_its_order(rt: HostRuntime) -> Result<(), Fail> {
+    let list = long_list(rt.alloc())?;
+    let order = long_order(rt.alloc())?;
+    assert_eq!(rt; order.len(), 40_001);
+    for a in 0..40_000usize {
+        assert!(rt; agrees(&list, &order, a, a + 1), "places {a} and the next");
+        let b = a * 7_919 % 40_001;
+        assert!(rt; agrees(&list, &order, a, b), "places {a} and {b}");
+    }
+    assert_eq!(rt; list.next(Item(0)), Some(Item(20_000)));
+    assert_eq!(rt; list.next(Item(40_000)), Some(Item(19_999)));
+    assert_eq!(rt; list.next(Item(1)), None);
     Ok(())
 }
 

@@ -18,8 +18,9 @@ use Rattle.access_shards.specs.declared.kept.Access.{Access}
 use Rattle.access_shards.specs.declared.kept.Kept.{Kept}
 use Rattle.access_shards.specs.declared.kept.Kept.TheVariants.{Clean, Found}
 use Rattle.access_shards.specs.Touches.{Touch, IsLate, IsRising}
-use Rattle.access_shards.specs.Kept.{Kind, touch, AreKnown, KeepsOneMore, IsViewOf, IsKept, IsWriter}
-use Rattle.access_shards.specs.Logged.{Logged}
+use Rattle.access_shards.specs.Kept.{Kind, touch, AreKnown, IsViewOf, IsKept, IsWriter}
+use Rattle.access_shards.specs.Logged.{Logged, IsLogOf, KeepsOneMore}
+use Rattle.access_shards.proofs.Logging.{log_same}
 use Rattle.access_shards.specs.Histories.{kind_of, touches_of, IsInStep}
 use Rattle.access_shards.proofs.Growing.{current_may_come}
 use Rattle.access_shards.proofs.Histories.{accesses_are_late}
@@ -62,10 +63,10 @@ kept_known s english hebrew sound o past (Clean writer readers) k = λ a there. 
 ]
 
 -- what is kept with the access that an event is
-pub kept_next : (h : List Event) (e : Event) (c : ℕ) (kind : Kind) (d : Doer) (english hebrew : List ℕ) (place : ℕ) (old new : Kept)
+pub kept_next : (h : List Event) (e : Event) (c : ℕ) (kind : Kind) (d : Doer) (english hebrew : List ℕ) (place : ℕ) (old new : Logged)
     → IsInStep h → IsInStep (h ++ e ∷ []) → kind_of c e.action ≡ Some kind → AreOrders (structure_of h) english hebrew → IsDoerOf (structure_of h) e.task d → place ≡ length h
     → KeepsOneMore d.reach d.at place kind (length english) english hebrew old new
-    → IsKept (structure_of h) (touches_of c h) old → IsKept (structure_of (h ++ e ∷ [])) (touches_of c (h ++ e ∷ [])) new
+    → IsLogOf (structure_of h) (touches_of c h) old → IsLogOf (structure_of (h ++ e ∷ [])) (touches_of c (h ++ e ∷ [])) new
 kept_next h e c kind d english hebrew place old new before steps is o of place_is keeps k =
     let s = structure_of h in
     let past = touches_of c h in
@@ -77,19 +78,19 @@ kept_next h e c kind d english hebrew place old new before steps is o of place_i
     let rising : IsRising (touch place d.at.number kind ∷ past) = subst (λ l. IsRising l) more (accesses_are_late (h ++ e ∷ []) c steps).0 in
     let late' : IsLate (edges_of s) past = subst (λ es. IsLate es past) (sym (structure_has_edges h)) late.1 in
     let come = current_may_come s past e.task d.at place kind before.sound late.2 late' of.stands (last_in h e.task ∙ stand.running) rising in
-    let kept : IsKept s (touch place d.at.number kind ∷ past) new = keeps s past (view_of s english hebrew e.task d before.sound o of) come k in
-    subst (λ l. IsKept l (touches_of c (h ++ e ∷ [])) new) (sym (structure_same h e (kind_plain e.action c kind is)))
-    (subst (λ l. IsKept s l new) (sym more) kept)
+    let kept : IsLogOf s (touch place d.at.number kind ∷ past) new = keeps s past (view_of s english hebrew e.task d before.sound o of) come k in
+    subst (λ l. IsLogOf l (touches_of c (h ++ e ∷ [])) new) (sym (structure_same h e (kind_plain e.action c kind is)))
+    (subst (λ l. IsLogOf s l new) (sym more) kept)
   where
     some_same : {a b : ℕ} → Some a ≡ Some b → a ≡ b
     some_same {a} {b} h = cc
 
 -- a log of a cell without accesses is added
-pub logs_push : (h : List Event) (logs : List Logged) (l : Logged) → ((s : List Event) → IsKept s [] l.kept) → AreLogsOf h logs → AreLogsOf h (logs ++ l ∷ [])
+pub logs_push : (h : List Event) (logs : List Logged) (l : Logged) → ((s : List Event) → IsLogOf s [] l) → AreLogsOf h logs → AreLogsOf h (logs ++ l ∷ [])
 logs_push h logs l empty a =
     record {
       each = λ c k is. elim (push_get logs l c k is) [
-        | inl n ↦ subst (λ (x : Logged). IsKept (structure_of h) (touches_of c h) x.kept) n.1 (subst (λ p. IsKept (structure_of h) p l.kept) (sym (a.rest c (omega (arith, n.0)))) (empty (structure_of h)))
+        | inl n ↦ subst (λ (x : Logged). IsLogOf (structure_of h) (touches_of c h) x) n.1 (subst (λ p. IsLogOf (structure_of h) p l) (sym (a.rest c (omega (arith, n.0)))) (empty (structure_of h)))
         | inr o ↦ a.each c k o.1
       ];
       rest = λ c le. a.rest c (let n = length-append logs (l ∷ []) in omega (arith, n, le));
@@ -97,14 +98,14 @@ logs_push h logs l empty a =
 
 -- the logs of a history with one more access
 pub logs_next : (h : List Event) (e : Event) (c : ℕ) (kind : Kind) (logs : List Logged) (new : Logged) → kind_of c e.action ≡ Some kind → c < length logs → AreLogsOf h logs
-    → IsKept (structure_of (h ++ e ∷ [])) (touches_of c (h ++ e ∷ [])) new.kept → AreLogsOf (h ++ e ∷ []) (set logs c new)
+    → IsLogOf (structure_of (h ++ e ∷ [])) (touches_of c (h ++ e ∷ [])) new → AreLogsOf (h ++ e ∷ []) (set logs c new)
 logs_next h e c kind logs new is lt a k =
     record {
       each = λ d l at. elim (set_get logs c d new l at) [
-        | inl n ↦ subst (λ (x : Logged). IsKept (structure_of (h ++ e ∷ [])) (touches_of d (h ++ e ∷ [])) x.kept) n.1 (subst (λ q. IsKept (structure_of (h ++ e ∷ [])) (touches_of q (h ++ e ∷ [])) new.kept) (sym n.0) k)
+        | inl n ↦ subst (λ (x : Logged). IsLogOf (structure_of (h ++ e ∷ [])) (touches_of d (h ++ e ∷ [])) x) n.1 (subst (λ q. IsLogOf (structure_of (h ++ e ∷ [])) (touches_of q (h ++ e ∷ [])) new) (sym n.0) k)
         | inr o ↦
-            subst (λ s. IsKept s (touches_of d (h ++ e ∷ [])) l.kept) (sym (structure_same h e (kind_plain e.action c kind is)))
-            (subst (λ p. IsKept (structure_of h) p l.kept) (sym (untouched h e d (kind_else e.action c d kind is o.0))) (a.each d l o.1))
+            subst (λ s. IsLogOf s (touches_of d (h ++ e ∷ [])) l) (sym (structure_same h e (kind_plain e.action c kind is)))
+            (subst (λ p. IsLogOf (structure_of h) p l) (sym (untouched h e d (kind_else e.action c d kind is o.0))) (a.each d l o.1))
       ];
       rest = λ d le. (
           let n = length-set logs c new in
@@ -112,11 +113,11 @@ logs_next h e c kind logs new is lt a k =
     }
 
 -- a log whose room alone is another
-pub logs_same : (h : List Event) (logs : List Logged) (c : ℕ) (old new : Logged) → slice_get logs c ≡ Some old → new.kept ≡ old.kept → AreLogsOf h logs → AreLogsOf h (set logs c new)
-logs_same h logs c old new is same a =
+pub logs_same : (h : List Event) (logs : List Logged) (c : ℕ) (old new : Logged) → slice_get logs c ≡ Some old → new.kept ≡ old.kept → new.rise ≡ old.rise → AreLogsOf h logs → AreLogsOf h (set logs c new)
+logs_same h logs c old new is same level a =
     record {
       each = λ d l at. elim (set_get logs c d new l at) [
-        | inl n ↦ subst (λ (x : Logged). IsKept (structure_of h) (touches_of d h) x.kept) n.1 (subst (λ q. IsKept (structure_of h) (touches_of q h) new.kept) (sym n.0) (subst (λ (k : Kept). IsKept (structure_of h) (touches_of c h) k) (sym same) (a.each c old is)))
+        | inl n ↦ subst (λ (x : Logged). IsLogOf (structure_of h) (touches_of d h) x) n.1 (subst (λ q. IsLogOf (structure_of h) (touches_of q h) new) (sym n.0) (log_same (structure_of h) (touches_of c h) old new same level (a.each c old is)))
         | inr o ↦ a.each d l o.1
       ];
       rest = λ d le. a.rest d (let n = length-set logs c new in omega (arith, n, le));
@@ -155,20 +156,20 @@ knows_logs h english hebrew doers logs logs' count k cells few = record { steps 
 -- a cell's log in a list that was made longer and given room
 module _ (h : List Event) (english hebrew : List ℕ) (doers : List Doer) (logs grown : List Logged) (count cell : ℕ) (old room : Logged)
     (k : Knows h english hebrew doers logs count) (cells : AreLogsOf h grown) (few : length grown ≤ 2 ^ 32)
-    (at : slice_get grown cell ≡ Some old) (same : room.kept ≡ old.kept) where
+    (at : slice_get grown cell ≡ Some old) (same : room.kept ≡ old.kept) (level : room.rise ≡ old.rise) where
   pub knows_room : Knows h english hebrew doers (set grown cell room) count
-  knows_room = knows_logs h english hebrew doers logs (set grown cell room) count k (logs_same h grown cell old room at same cells) (let n = length-set grown cell room in omega (arith, n, few))
+  knows_room = knows_logs h english hebrew doers logs (set grown cell room) count k (logs_same h grown cell old room at same level cells) (let n = length-set grown cell room in omega (arith, n, few))
 
   pub room_known : (l : Logged) → slice_get (set grown cell room) cell ≡ Some l → AreKnown (length english) l.kept
-  room_known l is = kept_known (structure_of h) english hebrew k.steps.sound k.orders (touches_of cell h) l.kept (knows_room.cells.each cell l is)
+  room_known l is = kept_known (structure_of h) english hebrew k.steps.sound k.orders (touches_of cell h) l.kept (knows_room.cells.each cell l is).kept
 
   pub access_taken : (e : Event) (kind : Kind) (task : ℕ) (d : Doer) (l new : Logged) (english' hebrew' : List ℕ) (count' : ℕ) → IsInStep (h ++ e ∷ []) → e.task ≡ task → kind_of cell e.action ≡ Some kind
-      → slice_get doers task ≡ Some d → cell < length grown → slice_get (set grown cell room) cell ≡ Some l → KeepsOneMore d.reach d.at count kind (length english) english hebrew l.kept new.kept
+      → slice_get doers task ≡ Some d → cell < length grown → slice_get (set grown cell room) cell ≡ Some l → KeepsOneMore d.reach d.at count kind (length english) english hebrew l new
       → english' ≡ english → hebrew' ≡ hebrew → count' ≡ count + 1 → Knows (h ++ e ∷ []) english' hebrew' doers (set (set grown cell room) cell new) count'
   access_taken e kind task d l new english' hebrew' count' steps task_is kind_is d_at there l_at keeps en he counted =
       let n = length-set grown cell room in
       let m = length-set (set grown cell room) cell new in
       let of : IsDoerOf (structure_of h) e.task d = subst (λ t. IsDoerOf (structure_of h) t d) (sym task_is) (k.tasks.each task d d_at) in
-      let kept = kept_next h e cell kind d english hebrew count l.kept new.kept k.steps steps kind_is k.orders of k.length_is keeps (knows_room.cells.each cell l l_at) in
+      let kept = kept_next h e cell kind d english hebrew count l new k.steps steps kind_is k.orders of k.length_is keeps (knows_room.cells.each cell l l_at) in
       knows_access h e cell kind english hebrew english' hebrew' doers (set grown cell room) (set (set grown cell room) cell new) count count' steps kind_is knows_room en he
       (logs_next h e cell kind (set grown cell room) new kind_is (omega (arith, n, there)) knows_room.cells kept) (omega (arith, n, m, few)) counted

@@ -1,24 +1,21 @@
 -- The report of the logs of all cells.
-use Rattle.std.proofs.Common.{◌≡◌, ℕ, suc, ◌+◌, ◌<◌, ◌≤◌, List, [], ◌∷◌, ◌++◌, length, get_or, inl, inr, subst, ap, sym, refl, ◌∙◌, arith, slice_get, length-append}
-use Rattle.std.specs.Prelude.{Option, Some, None, All, Any}
+use Rattle.std.proofs.Common.{◌≡◌, ℕ, true, suc, ◌+◌, ◌<◌, ◌≤◌, List, [], ◌∷◌, ◌++◌, length, get_or, inl, inr, subst, ap, sym, refl, ◌∙◌, arith, slice_get, length-append, Vec, Global}
+use Rattle.std.specs.Prelude.{Option, Some, All, Any}
 use Rattle.std.proofs.Math.ListN.{get_or-append}
 use Rattle.std.proofs.lemmas.Bool.{cases_lt, cases_eq}
 use Rattle.std.proofs.lemmas.Option.{slice_get-get_or}
 use Rattle.std.proofs.lemmas.List.Elements.{All-push, All-weaker}
 use Rattle.std.proofs.lemmas.List.Quantifiers.{Any-push}
-use Rattle.fut_base.specs.Listed.{Listed}
 use Rattle.fut_base.specs.declared.event.Event.{Event}
 use Rattle.fut_base.specs.declared.record.Race.{Race}
-use Rattle.fut_base.specs.Events.{structure_of}
+use Rattle.fut_base.specs.Dag.{Among}
 use Rattle.fut_base.specs.Racing.{PlacesRace, IsFirstPair, AreRising, IsReport}
 use Rattle.access_shards.specs.declared.kept.Access.{Access}
 use Rattle.access_shards.specs.declared.kept.Kept.{Kept}
 use Rattle.access_shards.specs.declared.kept.Kept.TheVariants.{Clean, Found}
-use Rattle.access_shards.specs.Kept.{IsKept}
 use Rattle.access_shards.specs.Logged.{Logged}
 use Rattle.access_shards.specs.Laws.{TellsRaces}
-use Rattle.access_shards.proofs.Pairs.{kept_tells_races}
-use Rattle.access_shards.proofs.Logging.{new_kept}
+use Rattle.access_shards.proofs.Pairs.{kept_tells_races, to_accesses}
 use Rattle.race_finder.specs.Finding.{AreLogsOf}
 
 -- a race is what the log of its cell has
@@ -60,13 +57,13 @@ report_found logs i races races' l r at is cell_is is' up =
       order = rising_push races r up.order (λ k d lt. (let b = up.below k d lt in omega (arith, b, cell_is)));
     })
 
-clean_found : (w : Option Access) (rs : Listed Access) (a b : ℕ) (k : Kept) → k ≡ Clean w rs → k ≡ Found a b → ⊥
+clean_found : (w : Option Access) (rs : Vec Access Global) (a b : ℕ) (k : Kept) → k ≡ Clean w rs → k ≡ Found a b → ⊥
 clean_found w rs a b k c f = cc
 
 same_log : (l m : Logged) → ◌≡◌ {A = Option Logged} (Some l) (Some m) → l ≡ m
 same_log l m e = cc
 
-pub report_clean : (logs : List Logged) (i : ℕ) (races : List Race) (l : Logged) (w : Option Access) (rs : Listed Access) → slice_get logs i ≡ Some l → l.kept ≡ Clean w rs → IsReportUpTo logs i races → IsReportUpTo logs (i + 1) races
+pub report_clean : (logs : List Logged) (i : ℕ) (races : List Race) (l : Logged) (w : Option Access) (rs : Vec Access Global) → slice_get logs i ≡ Some l → l.kept ≡ Clean w rs → IsReportUpTo logs i races → IsReportUpTo logs (i + 1) races
 report_clean logs i races l w rs at is up =
     record {
       each = up.each;
@@ -86,17 +83,17 @@ pub report_done : (h : List Event) (logs : List Logged) (i : ℕ) (races : List 
 report_done h logs i races le up logs_of =
     record {
       each = All-weaker (IsOfLog logs) (λ r. IsFirstPair h r.cell r.first r.second)
-          (λ r f. subst (TellsRaces h r.cell) f.2 (kept_tells_races h r.cell f.0.kept (logs_of.each r.cell f.0 f.1))) races up.each;
+          (λ r f. subst (TellsRaces h r.cell) f.2 (kept_tells_races h r.cell f.0.kept (logs_of.each r.cell f.0 f.1).kept)) races up.each;
       whole = λ c a b r. elim (cases_lt c (length logs)) [
         | inl lt ↦ (
-            let none : Logged = record { kept = Found 0 0; room = 0 } in
+            let none : Logged = record { kept = Found 0 0; room = 0; rise = true } in
             let l : Logged = get_or logs c none in
             let at : slice_get logs c ≡ Some l = slice_get-get_or logs c none lt in
-            let k = racing_found h c a b l.kept (kept_tells_races h c l.kept (logs_of.each c l at)) r in
+            let k = racing_found h c a b l.kept (kept_tells_races h c l.kept (logs_of.each c l at).kept) r in
             up.whole c l k.0 k.1 (omega (arith, lt, le)) at k.2)
         | inr ge ↦ (
-            let empty : Listed Access = record { items = []; spare = 0 } in
-            absurd (kept_tells_races h c (Clean None empty) (subst (λ p. IsKept (structure_of h) p (Clean None empty)) (sym (logs_of.rest c ge)) (new_kept (structure_of h) empty refl)) a b r))
+            let f = to_accesses h c a b r in
+            absurd (subst (λ p. Among f.0 p) (logs_of.rest c ge) f.2.one))
       ];
       order = up.order;
     }

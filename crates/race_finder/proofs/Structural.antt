@@ -16,10 +16,9 @@ use Rattle.strand_laws.proofs.Frames.{frame}
 use Rattle.strand_laws.proofs.Places.{by_eq}
 use Rattle.strand_tree.specs.Placing.{AreOrders}
 use Rattle.reach_table.proofs.Events.{tables_stay}
-use Rattle.access_shards.specs.Kept.{IsKept}
-use Rattle.access_shards.specs.Logged.{Logged}
+use Rattle.access_shards.specs.Logged.{Logged, IsLogOf}
 use Rattle.access_shards.specs.Histories.{touches_of, IsInStep}
-use Rattle.access_shards.proofs.Growing.{strand_stays, kept_stays}
+use Rattle.access_shards.proofs.Growing.{strand_stays, log_stays}
 use Rattle.access_shards.proofs.Histories.{accesses_are_late}
 use Rattle.race_finder.specs.declared.doer.Doer.{Doer}
 use Rattle.race_finder.specs.Finding.{last_if, IsDoerOf, AreDoersOf, AreLogsOf, Knows}
@@ -121,9 +120,9 @@ module _ (h : List Event) (e : Event) (steps : IsInStep (h ++ e ∷ [])) (plain 
   logs_more logs before a =
       record {
         each = λ c l at.
-            subst (λ s. IsKept s (touches_of c (h ++ e ∷ [])) l.kept) (sym (structure_more h e plain))
-            (subst (λ p. IsKept (structure_of h ++ e ∷ []) p l.kept) (sym (untouched h e c (kind_none e.action c plain)))
-            (kept_stays (structure_of h) (e ∷ []) (touches_of c h) l.kept sound_more (accesses_are_late h c before).2 (a.each c l at)));
+            subst (λ s. IsLogOf s (touches_of c (h ++ e ∷ [])) l) (sym (structure_more h e plain))
+            (subst (λ p. IsLogOf (structure_of h ++ e ∷ []) p l) (sym (untouched h e c (kind_none e.action c plain)))
+            (log_stays (structure_of h) (e ∷ []) (touches_of c h) l sound_more (accesses_are_late h c before).2 (a.each c l at)));
         rest = λ c le. untouched h e c (kind_none e.action c plain) ∙ a.rest c le;
       }
 

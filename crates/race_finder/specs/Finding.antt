@@ -8,8 +8,8 @@ use Rattle.fut_base.specs.Dag.{last_of, block_of}
 use Rattle.fut_base.specs.Sound.{current, next_task}
 use Rattle.strand_tree.specs.Placing.{IsStrandOf, AreOrders}
 use Rattle.reach_table.specs.Telling.{HasTable}
-use Rattle.access_shards.specs.Kept.{Kind, reading, writing, IsKept}
-use Rattle.access_shards.specs.Logged.{Logged}
+use Rattle.access_shards.specs.Kept.{Kind, reading, writing}
+use Rattle.access_shards.specs.Logged.{Logged, IsLogOf}
 use Rattle.access_shards.specs.Histories.{kind_of, touches_of, IsInStep}
 use Rattle.race_finder.specs.declared.doer.Doer.{Doer}
 use Rattle.race_finder.specs.declared.finder.Finder.{Finder}
@@ -31,9 +31,9 @@ pub record AreDoersOf (s : List Event) (doers : List Doer) : Type 0 where
   pub count : length doers ≡ next_task (reverse s)
   pub each : (t : ℕ) (d : Doer) → slice_get doers t ≡ Some d → IsDoerOf s t d
 
--- what is kept of each cell's accesses in a history, by the cell's number; the cells with greater numbers have none
+-- the logs of each cell's accesses in a history, by the cell's number; the cells with greater numbers have none
 pub record AreLogsOf (h : List Event) (logs : List Logged) : Type 0 where
-  pub each : (c : ℕ) (l : Logged) → slice_get logs c ≡ Some l → IsKept (structure_of h) (touches_of c h) l.kept
+  pub each : (c : ℕ) (l : Logged) → slice_get logs c ≡ Some l → IsLogOf (structure_of h) (touches_of c h) l
   pub rest : (c : ℕ) → length logs ≤ c → touches_of c h ≡ []
 
 -- both orders of a history's strands, its tasks, what is kept of its accesses, and its length

@@ -3,8 +3,8 @@ ghost use Rattle.std.specs.Prelude.{◌≡◌, ℕ, ◌^◌, ◌<◌, ◌≤◌,
 ghost use Rattle.fut_base.specs.declared.event.Event.{Event};
 ghost use Rattle.fut_base.specs.Racing.{IsReport};
 ghost use Rattle.reach_table.specs.Telling.{AllKnown};
-ghost use Rattle.access_shards.specs.Kept.{reading, writing, AreKnown, KeepsOneMore};
-ghost use Rattle.access_shards.specs.Logged.{HasRoom};
+ghost use Rattle.access_shards.specs.Kept.{reading, writing, AreKnown};
+ghost use Rattle.access_shards.specs.Logged.{HasRoom, KeepsOneMore};
 ghost use Rattle.race_finder.specs.Finding.{AreLogsOf, kind_by};
 
 use crate::doer::Doer;
@@ -31,7 +31,7 @@ fn keep_read(log: &mut CellLog, places: &mut Places, doer: &Doer, place: u32)
     requires at_known { doer.now.at.number < length places.old.english }
     requires table_known { AllKnown (length places.old.english) doer.now.reach }
     requires kept_known { AreKnown (length places.old.english) log.old.kept }
-    ensures kept { KeepsOneMore doer.now.reach doer.now.at place reading (length places.old.english) places.old.english places.old.hebrew log.old.kept log.new.kept }
+    ensures kept { KeepsOneMore doer.now.reach doer.now.at place reading (length places.old.english) places.old.english places.old.hebrew log.old log.new }
     ensures english { places.new.english ≡ places.old.english }
     ensures hebrew { places.new.hebrew ≡ places.old.hebrew }
 {
@@ -47,7 +47,7 @@ fn keep_write(log: &mut CellLog, places: &mut Places, doer: &Doer, place: u32)
     requires at_known { doer.now.at.number < length places.old.english }
     requires table_known { AllKnown (length places.old.english) doer.now.reach }
     requires kept_known { AreKnown (length places.old.english) log.old.kept }
-    ensures kept { KeepsOneMore doer.now.reach doer.now.at place writing (length places.old.english) places.old.english places.old.hebrew log.old.kept log.new.kept }
+    ensures kept { KeepsOneMore doer.now.reach doer.now.at place writing (length places.old.english) places.old.english places.old.hebrew log.old log.new }
     ensures english { places.new.english ≡ places.old.english }
     ensures hebrew { places.new.hebrew ≡ places.old.hebrew }
 {
@@ -64,7 +64,7 @@ pub fn keep(log: &mut CellLog, places: &mut Places, doer: &Doer, place: u32, wri
     requires at_known { doer.now.at.number < length places.old.english }
     requires table_known { AllKnown (length places.old.english) doer.now.reach }
     requires kept_known { AreKnown (length places.old.english) log.old.kept }
-    ensures kept { KeepsOneMore doer.now.reach doer.now.at place (kind_by writes) (length places.old.english) places.old.english places.old.hebrew log.old.kept log.new.kept }
+    ensures kept { KeepsOneMore doer.now.reach doer.now.at place (kind_by writes) (length places.old.english) places.old.english places.old.hebrew log.old log.new }
     ensures english { places.new.english ≡ places.old.english }
     ensures hebrew { places.new.hebrew ≡ places.old.hebrew }
 {

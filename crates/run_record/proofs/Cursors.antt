@@ -70,7 +70,7 @@ ends_rule k n x xs ys e h =
     is_false (is_more k n x) (Takes (Digits k (n * 10 + (x - 48)) ∷ [])) (behind_rule k n x) (subst (λ q. EndsAt k n q) e h)
 
 -- the end of the line behind a count
-line_rule : (k : Kind) (n : ℕ) → is_count k ≡ true → behind_rule k n 10 ≡ Takes (counted k n)
+pub line_rule : (k : Kind) (n : ℕ) → is_count k ≡ true → behind_rule k n 10 ≡ Takes (counted k n)
 line_rule kind.Plain n h = absurd (cc)
 line_rule kind.Positive n h = absurd (cc)
 line_rule kind.Negative n h = absurd (cc)

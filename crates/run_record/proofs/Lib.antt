@@ -5,3 +5,11 @@ pub mod Cursors
 pub mod Exits
 pub mod Rows
 pub mod Joined
+pub mod Phrases
+pub mod Viable
+pub mod Through
+pub mod Exact
+pub mod Ends
+pub mod Back
+pub mod Onces
+pub mod Decided

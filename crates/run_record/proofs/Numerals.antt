@@ -76,9 +76,9 @@ number_runs k s n fits =
     decimal_by_steps (λ m ds. m ≤ bound k → (r : List ℕ) → run (Number k ∷ s) (ds ++ r) ≡ run (Digits k m ∷ s) r)
     (λ m l f r. first_digit k m s r (omega arith))
     (λ m ds l h f r.
-        let same : m / 10 * 10 + m % 10 ≡ m = omega arith in
-        ap (λ q. run (Number k ∷ s) q) (append_assoc ds ((48 + m % 10) ∷ []) r)
-        ∙ h (omega arith) ((48 + m % 10) ∷ r)
-        ∙ next_digit k (m / 10) (m % 10) s r (omega arith) (omega arith) (omega arith)
-        ∙ ap (λ q. run (Digits k q ∷ s) r) same)
+    let same : m / 10 * 10 + m % 10 ≡ m = omega arith in
+    ap (λ q. run (Number k ∷ s) q) (append_assoc ds ((48 + m % 10) ∷ []) r)
+    ∙ h (omega arith) ((48 + m % 10) ∷ r)
+    ∙ next_digit k (m / 10) (m % 10) s r (omega arith) (omega arith) (omega arith)
+    ∙ ap (λ q. run (Digits k q ∷ s) r) same)
     n (omega arith) fits

@@ -7,6 +7,7 @@
 mod acts;
 mod cursor;
 mod digits;
+pub mod laws;
 pub mod pieces;
 pub mod reader;
 pub mod record;

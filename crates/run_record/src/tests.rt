@@ -9,10 +9,12 @@ use std::process::Abort;
 use std::test::Fail;
 
 /// Each act, each form of value, and numbers at their bounds.
-const EACH: &str = "forder 1\nprogram 5\nab\ncd\nentries 9\n0 t0 s0 create 3 t1 s1 s2 f7 -5 0\n1 t1 s1 write 4294967295 -9223372036854775808\n2 t1 s1 end 9223372036854775807\n3 t0 s2 get f1 f12 s3\n4 t0 s3 spawn 0 t2 s4 s5\n5 t2 s4 read 0 10\n6 t2 s4 end 0\n7 t0 s5 sync s6\n8 t0 s6 end f3\nraces 2\nrace 0 1 4\nrace 10 20 4294967295\nfinish whole\nend\n";
+const EACH: &str =
+    "forder 1\nprogram 5\nab\ncd\nentries 9\n0 t0 s0 create 3 t1 s1 s2 f7 -5 0\n1 t1 s1 write 4294967295 -9223372036854775808\n2 t1 s1 end 9223372036854775807\n3 t0 s2 get f1 f12 s3\n4 t0 s3 spawn 0 t2 s4 s5\n5 t2 s4 read 0 10\n6 t2 s4 end 0\n7 t0 s5 sync s6\n8 t0 s6 end f3\nraces 2\nrace 0 1 4\nrace 10 20 4294967295\nfinish whole\nend\n";
 
 /// Where the program's bytes stand in it.
 const PROGRAM_FROM: usize = 19;
+
 const PROGRAM_TO: usize = 24;
 
 /// No entries.
@@ -65,12 +67,18 @@ fn cuts_and_wrong_bytes(rt: HostRuntime) -> Result<(), Fail> {
     let bytes = EACH.as_bytes();
     let mut other = Vec::from_slice(alloc, bytes)?;
     for (place, byte) in bytes.iter().enumerate() {
-        assert!(rt; fault(alloc, &bytes[..place]) == Some(place as u32), "cut at {place}");
+        assert!(rt;
+            fault(alloc, &bytes[..place]) == Some(place as u32),
+            "cut at {place}"
+        );
         other[place] = b'!';
         if place >= PROGRAM_FROM && place < PROGRAM_TO {
             assert!(rt; is_again(alloc, &other)?, "another program at {place}");
         } else {
-            assert!(rt; fault(alloc, &other) == Some(place as u32), "wrong at {place}");
+            assert!(rt;
+                fault(alloc, &other) == Some(place as u32),
+                "wrong at {place}"
+            );
         }
         other[place] = *byte;
     }

@@ -1,11 +1,7 @@
-use Rattle.std.proofs.Common.{◌≡◌, ℕ, ◌+◌, ◌-◌, ◌*◌, List, ◌++◌, length, Some}
-use Rattle.order_list.specs.Chain.{walk}
-use Rattle.order_list.specs.Labels.{IsSpaced}
+use Rattle.std.proofs.Common.{ℕ, List}
+use Rattle.order_list.specs.Spans.{IsRoute}
+use Rattle.order_list.proofs.Spreading.{IsSpreading}
 use Rattle.order_list.proofs.spread.spread.Given as goal
 
--- the chain is what has its labels and what is left
 abbrev pub invariant-loop-k : goal.invariant-loop-k
-invariant-loop-k l = (done : List ℕ)
-    × (walk l.nexts (length l.nexts) (Some 0) ≡ done ++ walk l.nexts (length l.nexts - l.k) l.at)
-    × IsSpaced l.labels l.gap l.gap 0 done
-    × (l.label ≡ (length done + 1) * l.gap)
+invariant-loop-k l = (items rest : List ℕ) → IsRoute l.fn.labels l.nexts l.window items rest → IsSpreading l.fn.labels l.nexts l.window items rest l.labels l.k l.label l.at

@@ -36,16 +36,17 @@ returns c =
     let es = events_of c.in_ok-history.history in
     let rs = c.in_ok-races.races.items in
     let f = c.in_ok-finish.finish in
-    let ys = c.last.new.cursor in
-    (after program_due (history_due ++ (report_due ++ last_due)) c.in_ok-program.ensures.0
-     (after history_due (report_due ++ last_due) c.in_ok-history.ensures.0 (after report_due last_due c.in_ok-races.ensures.0 c.in_ok-finish.ensures.0)),
-     c.in_ok-program.ensures.1 ∙ ap (λ q. program_text p ++ q) (c.in_ok-history.ensures.1 ∙ ap (λ q. history_text es ++ q) (c.in_ok-races.ensures.1 ∙ ap (λ q. report_text rs ++ q) c.in_ok-finish.ensures.1))
-     ∙ whole_is p es rs f ys,
-     record {
-       short = c.in_ok-program.ensures.2;
-       few = c.in_ok-history.ensures.2.0;
-       numbered = c.in_ok-history.ensures.2.1;
-       few_races = c.in_ok-races.ensures.2.0;
-       raced = c.in_ok-races.ensures.2.1;
-       finished = c.in_ok-finish.ensures.2;
-     })
+    let ys = c.last.new.cursor in (
+      after program_due (history_due ++ (report_due ++ last_due)) c.in_ok-program.ensures.0
+          (after history_due (report_due ++ last_due) c.in_ok-history.ensures.0 (after report_due last_due c.in_ok-races.ensures.0 c.in_ok-finish.ensures.0)),
+      c.in_ok-program.ensures.1 ∙ ap (λ q. program_text p ++ q) (c.in_ok-history.ensures.1 ∙ ap (λ q. history_text es ++ q) (c.in_ok-races.ensures.1 ∙ ap (λ q. report_text rs ++ q) c.in_ok-finish.ensures.1))
+          ∙ whole_is p es rs f ys,
+      record {
+        short = c.in_ok-program.ensures.2;
+        few = c.in_ok-history.ensures.2.0;
+        numbered = c.in_ok-history.ensures.2.1;
+        few_races = c.in_ok-races.ensures.2.0;
+        raced = c.in_ok-races.ensures.2.1;
+        finished = c.in_ok-finish.ensures.2;
+      },
+    )

@@ -16,10 +16,11 @@ pub returns-then-byte-eq10 : goal.returns-then-byte-eq10
 returns-then-byte-eq10 c =
     let vs = c.more.all.items in
     let ys = c.bump.new.self in
-    let front = in_view c.more.cursor 10 (sym c.peek.ensures ∙ c.in-Some.is ∙ ap Some c.if-byte-eq10.true) ∙ ap (λ q. 10 ∷ q) (sym c.bump.ensures) in
-    (onward c.more.invariant.goes (takes (Arguments (16 - length vs)) 10 [] c.more.cursor ys refl front),
-     c.more.invariant.text [] ys front ∙ ap (λ q. values_line q ++ ys) (append-nil vs),
-     (c.more.invariant.few, c.more.invariant.values))
+    let front = in_view c.more.cursor 10 (sym c.peek.ensures ∙ c.in-Some.is ∙ ap Some c.if-byte-eq10.true) ∙ ap (λ q. 10 ∷ q) (sym c.bump.ensures) in (
+      onward c.more.invariant.goes (takes (Arguments (16 - length vs)) 10 [] c.more.cursor ys refl front),
+      c.more.invariant.text [] ys front ∙ ap (λ q. values_line q ++ ys) (append-nil vs),
+      (c.more.invariant.few, c.more.invariant.values),
+    )
 
 pub more-preserved : goal.more-preserved
 more-preserved c =

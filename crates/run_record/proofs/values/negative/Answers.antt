@@ -18,7 +18,8 @@ returns-in-Some-peek c =
     let front = in_view xs x (sym c.peek.ensures ∙ c.in-Some.is) ∙ ap (λ q. x ∷ q) (sym c.bump.ensures) in
     let z = c.below_zero.result in
     let same = back z c.below_zero.type_inv in
-    let least = g.least in
-    (minus_goes x n c.in-Some-peek.field-0 xs m ys _ front low high g (in_view ys c.in-Some-peek.field-0 (sym c.peek-2.ensures ∙ c.in-Some-peek.is)),
-     minus_text x n xs m ys _ front low high g (same ∙ c.below_zero.ensures),
-     minus_within n _ (omega (arith, least, low)) g.most (same ∙ c.below_zero.ensures))
+    let least = g.least in (
+      minus_goes x n c.in-Some-peek.field-0 xs m ys _ front low high g (in_view ys c.in-Some-peek.field-0 (sym c.peek-2.ensures ∙ c.in-Some-peek.is)),
+      minus_text x n xs m ys _ front low high g (same ∙ c.below_zero.ensures),
+      minus_within n _ (omega (arith, least, low)) g.most (same ∙ c.below_zero.ensures),
+    )

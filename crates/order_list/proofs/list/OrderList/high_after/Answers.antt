@@ -14,14 +14,14 @@ record Found (i : Inside) (v : Ordered) (x : ℕ) (o : Option ℕ) : Type 0 wher
   is : high_of v x ≡ high_by i.labels.items o
   facts : Next i.labels.items (length i.nexts.items) x o
 
-found : (i : Inside) (v : Ordered) (x : ℕ) (o p : Option ℕ) → the_view i ≡ v → Keeps i.labels.items i.nexts.items (walk i.nexts.items (vec_len i.nexts) (Some 0)) → x < length v.order → o ≡ get_or i.nexts.items x o → o ≡ p → Found i v x p
+found : (i : Inside) (v : Ordered) (x : ℕ) (o p : Option ℕ) → the_view i ≡ v → Keeps i.labels.items i.nexts.items i.prevs.items (walk i.nexts.items (vec_len i.nexts) (Some 0)) → x < length v.order → o ≡ get_or i.nexts.items x o → o ≡ p → Found i v x p
 found i v x o p view_is k x_in read is =
     let P : Ordered → Type 0 = λ w. x < length w.order in
     let in_ = subst P (sym view_is) x_in in
     let Q : Ordered → Option ℕ → Type 0 = λ w q. Found i w x q in
     subst (λ w. Q w p) view_is (subst (λ q. Q (the_view i) q) is (record {
-      is = ap (high_by i.labels.items) (sym (kept_next i.labels.items i.nexts.items _ x o k in_ read));
-      facts = next_read i.labels.items i.nexts.items _ x o k in_ read;
+      is = ap (high_by i.labels.items) (sym (kept_next i.labels.items i.nexts.items i.prevs.items _ x o k in_ read));
+      facts = next_read i.labels.items i.nexts.items i.prevs.items _ x o k in_ read;
     }))
 
 labels_of : (i : Inside) (v : Ordered) (x : ℕ) → the_view i ≡ v → slice_index v.labels x ≡ slice_index i.labels.items x

@@ -13,7 +13,8 @@ returns c =
     let xs = c.self.inside.left.now in
     let n = c.args.count in
     let made = c.split_at.ensures in
-    let goes = subst (λ (q : List ℕ). Steps (bytes_due n) xs [] q) (sym made.back) (bytes_taken n xs c.if-count-self.false) in
-    (subst (λ (q : List ℕ). Steps (bytes_due n) q [] c.split_at.result.1.now) c.self.view_is goes,
-     sym c.self.view_is ∙ sym (take-append-drop n xs) ∙ sym (ap₂ (λ a b. a ++ b) made.front made.back),
-     made.front_len)
+    let goes = subst (λ (q : List ℕ). Steps (bytes_due n) xs [] q) (sym made.back) (bytes_taken n xs c.if-count-self.false) in (
+      subst (λ (q : List ℕ). Steps (bytes_due n) q [] c.split_at.result.1.now) c.self.view_is goes,
+      sym c.self.view_is ∙ sym (take-append-drop n xs) ∙ sym (ap₂ (λ a b. a ++ b) made.front made.back),
+      made.front_len,
+    )
