@@ -8,7 +8,9 @@ use Rattle.fut_syntax.specs.Trees as tree
 use Rattle.task_machine.specs.Machine.{Machine, Leads, IsLegal, FinishHolds, opening}
 use Rattle.run_replay.specs.declared.checking.RunFault.{RunFault}
 use Rattle.run_replay.specs.declared.checking.RunFault.TheVariants as fault
+use Rattle.task_code.specs.Flat.{Compiled}
 use Rattle.run_replay.specs.Steps.{IsNoStep}
+use Rattle.run_replay.specs.Replays.{ReplayNow, IsReplayOf}
 
 -- the races and the finish are those of the history
 abbrev pub AreThoseOf : tree.Program → List Event → List Race → Finish → Type 0
@@ -41,3 +43,9 @@ abbrev pub IsChecked : tree.Program → List Event → List Race → Finish → 
 IsChecked P h races end (Ok _) = IsAccepted P h races end
 IsChecked P h races end (Err (fault.NotLegal k)) = IsRefusedAt P h races end k
 IsChecked P h races end (Err fault.NoMemory) = Unit {0}
+
+-- a run has made these events; or those before one of them are legal, and it is no step after them
+abbrev pub IsReplayed : tree.Program → Compiled → List Event → Result ReplayNow RunFault → Type 0
+IsReplayed P code h (Ok now) = (m : Machine) × IsReplayOf P code h now m
+IsReplayed P code h (Err (fault.NotLegal k)) = IsNoStepAt P h k
+IsReplayed P code h (Err fault.NoMemory) = Unit {0}

@@ -3,6 +3,7 @@
 
 pub mod checking;
 mod copies;
+mod ending;
 pub mod line;
 mod ready;
 pub mod replay;
