@@ -5,13 +5,16 @@ ghost use Rattle.fut_check.specs.Items.{IsWellTyped};
 ghost use Rattle.task_code.specs.Flat.{IsCodeOf};
 ghost use Rattle.run_replay.specs.Replays.{IsSomeReplay};
 
+use crate::checking::{RunFault, check_run};
+use crate::copies::copy_of;
 use crate::replay::Replay;
 use crate::serial::serial;
 use crate::step::StepStop;
 use fut_base::list::{Listing, NoMemory};
-use fut_base::record::{Act, Entry, Limits, Value};
+use fut_base::record::{Act, Entry, Finish, History, Limits, Race, Ran, Value};
 use fut_check::check;
 use fut_syntax::parse;
+use run_record::record::RunText;
 use std::alloc::Global;
 use std::test::Fail;
 use task_code::code::Code;
@@ -144,6 +147,164 @@ fn other_events_are_refused(rt: HostRuntime) -> Result<(), Fail> {
         let other = Entry { task, strand, act };
         let told = refusal(alloc, &code, ran.history.as_slice(), place, &other)?;
         assert_eq!(rt; told, Some(StepStop::NotLegal), "{place}");
+    }
+    Ok(())
+}
+
+/// A future and a child write two cells, as above. The serial run: 0 t0 s0 create 0 t1 s1 s2 3, 1 t1 s1 write 0 3,
+/// 2 t1 s1 write 1 3, 3 t1 s1 end 5, 4 t0 s2 spawn 0 t2 s3 s4 4, 5 t2 s3 write 0 4, 6 t2 s3 write 1 4, 7 t2 s3 end 5,
+/// 8 t0 s4 sync s5, 9 t0 s5 read 0 4, 10 t0 s5 get f1 5 s6, 11 t0 s6 end 5. Its races: cell 0 at 1 and 5, cell 1 at 2 and 6.
+const RACES: &str =
+    "cells a[2]; task kid(n: int) int { a[0] = n; a[1] = n; return 5; } task main() int { var h: fut int = create kid(3); spawn kid(4); sync; var x: int = a[0]; var y: int = get h; return y; }";
+
+/// `main` is out of steps.
+const ENDLESS: &str = "task main() int { while 1 { } return 0; }";
+
+/// `main` wishes to create a future after 4,096 creates.
+const FUTURES: &str =
+    "task kid() int { return 0; } task main() int { while 1 { var h: fut int = create kid(); } return 0; }";
+
+const MOST: Limits = Limits {
+    events: 1_000_000,
+    local_steps: 1_000_000,
+    futures: 4096,
+};
+
+/// The entries at these places, one of them with another act.
+fn entries_at(
+    alloc: Global,
+    entries: &[Entry],
+    places: &[usize],
+    other: &Option<(usize, Act)>,
+) -> Result<History, NoMemory> {
+    let mut history = History::make(alloc);
+    for place in places {
+        let Some(entry) = entries.get(*place) else {
+            return Err(NoMemory);
+        };
+        let mut act = &entry.act;
+        if let Some((at, given)) = other {
+            if at == place {
+                act = given;
+            }
+        }
+        let copy = copy_of(alloc, entry.task, entry.strand, act)?;
+        history.reserve()?;
+        history.push(copy);
+    }
+    Ok(history)
+}
+
+/// Why a record of these entries, races and finish is refused; `None` where it is accepted.
+fn fault(
+    alloc: Global,
+    code: &Code,
+    history: History,
+    races: &[Race],
+    finish: Finish,
+) -> Result<Option<RunFault>, NoMemory>
+    requires { (P : tree.Program) × IsWellTyped P × IsCodeOf P code.now }
+{
+    let run = RunText {
+        program: Listing::make(alloc),
+        history,
+        races: Listing::from_vec(Vec::from_slice(alloc, races)?),
+        finish,
+    };
+    Ok(check_run(alloc, code, &run).err())
+}
+
+/// The serial run of a text, and how its record is refused.
+fn serial_fault(alloc: Global, text: &[u8]) -> Result<(Finish, Option<RunFault>), NoMemory>
+    requires { length text.now + 1 < 2 ^ 32 }
+{
+    let code = code_of(alloc, text)?;
+    let ran = serial(alloc, &code, MOST)?;
+    let Ran {
+        history,
+        races,
+        finish,
+        ..
+    } = ran;
+    let told = fault(alloc, &code, history, races.as_slice(), finish)?;
+    Ok((finish, told))
+}
+
+#[test]
+fn records_are_checked(rt: HostRuntime) -> Result<(), Fail> {
+    let alloc = rt.alloc();
+    for (text, finish) in [
+        (RACES, Finish::Whole),
+        (ENDLESS, Finish::Local { task: 0 }),
+        (FUTURES, Finish::Futures { task: 0 }),
+    ] {
+        let bytes = text.as_bytes();
+        assert!(rt; bytes.len() < 8192);
+        let (ended, told) = serial_fault(alloc, bytes)?;
+        assert_eq!(rt; ended, finish);
+        assert_eq!(rt; told, None);
+    }
+    Ok(())
+}
+
+#[test]
+fn other_records_are_refused(rt: HostRuntime) -> Result<(), Fail> {
+    let alloc = rt.alloc();
+    let text = RACES.as_bytes();
+    assert!(rt; text.len() < 8192);
+    let code = code_of(alloc, text)?;
+    let ran = serial(alloc, &code, MOST)?;
+    let race = |cell, first, second| Race {
+        cell,
+        first,
+        second,
+    };
+    let refused = |entry| Some(RunFault::NotLegal { entry });
+    let none: [Race; 0] = [];
+    let one = [race(0, 1, 5)];
+    let both = [race(0, 1, 5), race(1, 2, 6)];
+    let three = [race(0, 1, 5), race(1, 2, 6), race(2, 2, 6)];
+    let turned = [race(1, 2, 6), race(0, 1, 5)];
+    let other = [race(0, 1, 5), race(1, 2, 9)];
+    let all = [0, 1, 2, 3, 4, 5, 6, 7, 8, 9, 10, 11];
+    let five = [0, 1, 2, 3, 4];
+    let six = [0, 1, 2, 3, 4, 5];
+    let doubled = [0, 1, 1, 2, 3, 4];
+    let swapped = [0, 2, 1, 3, 4];
+    let read = Act::Read { cell: 0, value: 3 };
+    let get = Act::Get {
+        future: 1,
+        value: Value::Int(6),
+        strand: 6,
+    };
+    let cases = [
+        (all.as_slice(), None, both.as_slice(), Finish::Whole, None),
+        // beginnings
+        (&five, None, &none, Finish::Events { bound: 5 }, None),
+        (&six, None, &one, Finish::Events { bound: 6 }, None),
+        // another value read or got
+        (&all, Some((9, read)), &both, Finish::Whole, refused(9)),
+        (&all, Some((10, get)), &both, Finish::Whole, refused(10)),
+        // an entry twice, and two in the other order
+        (&doubled, None, &none, Finish::Whole, refused(2)),
+        (&swapped, None, &none, Finish::Whole, refused(1)),
+        // a race left out, one too many, another order, another place
+        (&all, None, &one, Finish::Whole, refused(12)),
+        (&all, None, &three, Finish::Whole, refused(12)),
+        (&all, None, &turned, Finish::Whole, refused(12)),
+        (&all, None, &other, Finish::Whole, refused(12)),
+        // another end
+        (&five, None, &none, Finish::Whole, refused(5)),
+        (&five, None, &none, Finish::Events { bound: 6 }, refused(5)),
+        (&all, None, &both, Finish::Events { bound: 12 }, refused(12)),
+        (&five, None, &none, Finish::Local { task: 0 }, refused(5)),
+        (&five, None, &none, Finish::Local { task: 1 }, refused(5)),
+        (&five, None, &none, Finish::Futures { task: 0 }, refused(5)),
+    ];
+    for (places, other, races, finish, expected) in cases {
+        let history = entries_at(alloc, ran.history.as_slice(), places, &other)?;
+        let told = fault(alloc, &code, history, races, finish)?;
+        assert_eq!(rt; told, expected);
     }
     Ok(())
 }
