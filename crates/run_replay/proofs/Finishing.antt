@@ -59,10 +59,12 @@ module _ (P : tree.Program) (code : Compiled) (h : List Event) (now : ReplayNow)
 
   pub local_by : (t : ℕ) (r : Running) (w : asked.Wish) (long : Bool) → IsRunning m t r → Wishes P 1000000 r.state w → (long ≡ true → w ≡ wish.Long) → (long ≡ false → IsEvent w) → IsTrue long ↔ FinishHolds P h (finish.Local t)
   local_by t r w true run wishes is event = (λ yes. (m, r, x.leads, run, (1000000, refl, subst (λ z. Wishes P 1000000 r.state z) (is refl) wishes)), λ end. refl)
-  local_by t r w false run wishes is event =
-      (λ no. absurd (false≢true no), λ end. absurd (
+  local_by t r w false run wishes is event = (
+    λ no. absurd (false≢true no),
+    λ end. absurd (
         let s = spent t end in
-        not_out P r.state w (event refl) wishes (subst (λ (q : Running). IsOutOfSteps q.state) (some_same s.0 r (sym s.1.0 ∙ run.0)) s.2)))
+        not_out P r.state w (event refl) wishes (subst (λ (q : Running). IsOutOfSteps q.state) (some_same s.0 r (sym s.1.0 ∙ run.0)) s.2)),
+  )
 
   pub other_count : (t : ℕ) → (now.creates ≡ 4096 → ⊥) → IsTrue false ↔ FinishHolds P h (finish.Futures t)
   other_count t other = (λ no. absurd (false≢true no), λ end. absurd (other (x.creates ∙ (full t end).2)))
@@ -71,8 +73,10 @@ module _ (P : tree.Program) (code : Compiled) (h : List Event) (now : ReplayNow)
   futures_idle t is = (λ no. absurd (false≢true no), λ end. absurd (let s = full t end in idle P code h now m t s.0 x is s.1))
 
   pub futures_by : (t : ℕ) (r : Running) (w : asked.Wish) → now.creates ≡ 4096 → IsRunning m t r → Wishes P 1000000 r.state w → IsTrue (is_create w) ↔ FinishHolds P h (finish.Futures t)
-  futures_by t r w many run wishes =
-      (λ is. (m, r, x.leads, run, sym x.creates ∙ many, create_of P r w is wishes), λ end. (
+  futures_by t r w many run wishes = (
+    λ is. (m, r, x.leads, run, sym x.creates ∙ many, create_of P r w is wishes),
+    λ end. (
         let s = full t end in
         let c = s.3 in
-        only_create P r w c.0 c.1 c.2 (subst (λ (q : Running). StandsAt q.state c.0) (some_same s.0 r (sym s.1.0 ∙ run.0)) c.3) c.4 wishes))
+        only_create P r w c.0 c.1 c.2 (subst (λ (q : Running). StandsAt q.state c.0) (some_same s.0 r (sym s.1.0 ∙ run.0)) c.3) c.4 wishes),
+  )

@@ -170,39 +170,71 @@ const MOST: Limits = Limits {
     futures: 4096,
 };
 
-/// The entries at these places, one of them with another act.
-fn entries_at(
+/// What is changed of the entries of a record.
+#[derive(Clone, Copy, Debug)]
+enum Change {
+    Nothing,
+    /// Entry 9 reads another value.
+    Read,
+    /// Entry 10 gets another value.
+    Got,
+    /// Entry 1 stands twice.
+    Doubled,
+    /// Entries 1 and 2 stand in the other order.
+    Swapped,
+}
+
+/// The place of the entry that a changed record has at a place.
+fn source(change: Change, place: usize) -> usize {
+    match change {
+        Change::Doubled if place > 1 => place - 1,
+        Change::Swapped if place == 1 => 2,
+        Change::Swapped if place == 2 => 1,
+        _ => place,
+    }
+}
+
+/// The entry of a changed record at a place.
+fn changed(alloc: Global, change: Change, place: usize, entry: &Entry) -> Result<Entry, NoMemory> {
+    let act = match change {
+        Change::Read if place == 9 => Act::Read { cell: 0, value: 3 },
+        Change::Got if place == 10 => Act::Get {
+            future: 1,
+            value: Value::Int(6),
+            strand: 6,
+        },
+        _ => return copy_of(alloc, entry.task, entry.strand, &entry.act),
+    };
+    copy_of(alloc, entry.task, entry.strand, &act)
+}
+
+/// So many entries of a changed record.
+fn entries_of(
     alloc: Global,
     entries: &[Entry],
-    places: &[usize],
-    other: &Option<(usize, Act)>,
+    change: Change,
+    count: usize,
 ) -> Result<History, NoMemory> {
     let mut history = History::make(alloc);
-    for place in places {
-        let Some(entry) = entries.get(*place) else {
+    for place in 0..count {
+        let Some(entry) = entries.get(source(change, place)) else {
             return Err(NoMemory);
         };
-        let mut act = &entry.act;
-        if let Some((at, given)) = other {
-            if at == place {
-                act = given;
-            }
-        }
-        let copy = copy_of(alloc, entry.task, entry.strand, act)?;
+        let copy = changed(alloc, change, place, entry)?;
         history.reserve()?;
         history.push(copy);
     }
     Ok(history)
 }
 
-/// Why a record of these entries, races and finish is refused; `None` where it is accepted.
-fn fault(
+/// The entry at which a record of these entries, races and finish is refused; `None` where it is accepted.
+fn refused(
     alloc: Global,
     code: &Code,
     history: History,
     races: &[Race],
     finish: Finish,
-) -> Result<Option<RunFault>, NoMemory>
+) -> Result<Option<u32>, NoMemory>
     requires { (P : tree.Program) × IsWellTyped P × IsCodeOf P code.now }
 {
     let run = RunText {
@@ -211,38 +243,36 @@ fn fault(
         races: Listing::from_vec(Vec::from_slice(alloc, races)?),
         finish,
     };
-    Ok(check_run(alloc, code, &run).err())
+    match check_run(alloc, code, &run) {
+        Ok(()) => Ok(None),
+        Err(RunFault::NotLegal { entry }) => Ok(Some(entry)),
+        Err(RunFault::NoMemory) => Err(NoMemory),
+    }
 }
 
-/// The serial run of a text, and how its record is refused.
-fn serial_fault(alloc: Global, text: &[u8]) -> Result<(Finish, Option<RunFault>), NoMemory>
+/// How the serial run of a text has ended, and where its record is refused.
+fn serial_refused(alloc: Global, text: &[u8]) -> Result<(Finish, Option<u32>), NoMemory>
     requires { length text.now + 1 < 2 ^ 32 }
 {
     let code = code_of(alloc, text)?;
     let ran = serial(alloc, &code, MOST)?;
-    let Ran {
-        history,
-        races,
-        finish,
-        ..
-    } = ran;
-    let told = fault(alloc, &code, history, races.as_slice(), finish)?;
+    let finish = ran.finish;
+    let told = refused(alloc, &code, ran.history, ran.races.as_slice(), finish)?;
     Ok((finish, told))
 }
 
 #[test]
-fn records_are_checked(rt: HostRuntime) -> Result<(), Fail> {
-    let alloc = rt.alloc();
-    for (text, finish) in [
+fn serial_records_are_accepted(rt: HostRuntime) -> Result<(), Fail> {
+    let cases = [
         (RACES, Finish::Whole),
         (ENDLESS, Finish::Local { task: 0 }),
         (FUTURES, Finish::Futures { task: 0 }),
-    ] {
+    ];
+    for (text, finish) in cases {
         let bytes = text.as_bytes();
         assert!(rt; bytes.len() < 8192);
-        let (ended, told) = serial_fault(alloc, bytes)?;
-        assert_eq!(rt; ended, finish);
-        assert_eq!(rt; told, None);
+        let told = serial_refused(rt.alloc(), bytes)?;
+        assert_eq!(rt; told, (finish, None));
     }
     Ok(())
 }
@@ -259,52 +289,53 @@ fn other_records_are_refused(rt: HostRuntime) -> Result<(), Fail> {
         first,
         second,
     };
-    let refused = |entry| Some(RunFault::NotLegal { entry });
-    let none: [Race; 0] = [];
-    let one = [race(0, 1, 5)];
-    let both = [race(0, 1, 5), race(1, 2, 6)];
     let three = [race(0, 1, 5), race(1, 2, 6), race(2, 2, 6)];
+    let (one, _) = three.split_at(1);
+    let (both, _) = three.split_at(2);
+    let (none, all) = three.split_at(0);
     let turned = [race(1, 2, 6), race(0, 1, 5)];
-    let other = [race(0, 1, 5), race(1, 2, 9)];
-    let all = [0, 1, 2, 3, 4, 5, 6, 7, 8, 9, 10, 11];
-    let five = [0, 1, 2, 3, 4];
-    let six = [0, 1, 2, 3, 4, 5];
-    let doubled = [0, 1, 1, 2, 3, 4];
-    let swapped = [0, 2, 1, 3, 4];
-    let read = Act::Read { cell: 0, value: 3 };
-    let get = Act::Get {
-        future: 1,
-        value: Value::Int(6),
-        strand: 6,
-    };
     let cases = [
-        (all.as_slice(), None, both.as_slice(), Finish::Whole, None),
         // beginnings
-        (&five, None, &none, Finish::Events { bound: 5 }, None),
-        (&six, None, &one, Finish::Events { bound: 6 }, None),
-        // another value read or got
-        (&all, Some((9, read)), &both, Finish::Whole, refused(9)),
-        (&all, Some((10, get)), &both, Finish::Whole, refused(10)),
-        // an entry twice, and two in the other order
-        (&doubled, None, &none, Finish::Whole, refused(2)),
-        (&swapped, None, &none, Finish::Whole, refused(1)),
-        // a race left out, one too many, another order, another place
-        (&all, None, &one, Finish::Whole, refused(12)),
-        (&all, None, &three, Finish::Whole, refused(12)),
-        (&all, None, &turned, Finish::Whole, refused(12)),
-        (&all, None, &other, Finish::Whole, refused(12)),
+        (Change::Nothing, 5, none, Finish::Events { bound: 5 }, None),
+        (Change::Nothing, 6, one, Finish::Events { bound: 6 }, None),
+        // another value read or got, an entry twice, and two in the other order
+        (Change::Read, 12, both, Finish::Whole, Some(9)),
+        (Change::Got, 12, both, Finish::Whole, Some(10)),
+        (Change::Doubled, 6, none, Finish::Whole, Some(2)),
+        (Change::Swapped, 6, none, Finish::Whole, Some(1)),
+        // a race left out, one too many, and the other order
+        (Change::Nothing, 12, one, Finish::Whole, Some(12)),
+        (Change::Nothing, 12, all, Finish::Whole, Some(12)),
+        (Change::Nothing, 12, &turned, Finish::Whole, Some(12)),
         // another end
-        (&five, None, &none, Finish::Whole, refused(5)),
-        (&five, None, &none, Finish::Events { bound: 6 }, refused(5)),
-        (&all, None, &both, Finish::Events { bound: 12 }, refused(12)),
-        (&five, None, &none, Finish::Local { task: 0 }, refused(5)),
-        (&five, None, &none, Finish::Local { task: 1 }, refused(5)),
-        (&five, None, &none, Finish::Futures { task: 0 }, refused(5)),
+        (Change::Nothing, 5, none, Finish::Whole, Some(5)),
+        (
+            Change::Nothing,
+            5,
+            none,
+            Finish::Events { bound: 6 },
+            Some(5),
+        ),
+        (
+            Change::Nothing,
+            12,
+            both,
+            Finish::Events { bound: 12 },
+            Some(12),
+        ),
+        (Change::Nothing, 5, none, Finish::Local { task: 0 }, Some(5)),
+        (
+            Change::Nothing,
+            5,
+            none,
+            Finish::Futures { task: 0 },
+            Some(5),
+        ),
     ];
-    for (places, other, races, finish, expected) in cases {
-        let history = entries_at(alloc, ran.history.as_slice(), places, &other)?;
-        let told = fault(alloc, &code, history, races, finish)?;
-        assert_eq!(rt; told, expected);
+    for (change, count, races, finish, expected) in cases {
+        let history = entries_of(alloc, ran.history.as_slice(), change, count)?;
+        let told = refused(alloc, &code, history, races, finish)?;
+        assert_eq!(rt; told, expected, "{change:?} {count} {finish:?}");
     }
     Ok(())
 }
