@@ -46,7 +46,7 @@ one_wish : (P : tree.Program) (s t u : TaskState) (v w : Wish) → StandsAt s t 
 one_wish P s t u v w a b x y = sym x ∙ (ap (wish_of P) (stands_at_one s t u a b) ∙ y)
 
 -- only this wish is to create
-only_create : (P : tree.Program) (r : Running) (w : asked.Wish) (stop : TaskState) (code : ℕ) (args : List Value) → StandsAt r.state stop → wish_of P stop ≡ ToCreate code args → Wishes P 1000000 r.state w → is_create w ≡ true
+pub only_create : (P : tree.Program) (r : Running) (w : asked.Wish) (stop : TaskState) (code : ℕ) (args : List Value) → StandsAt r.state stop → wish_of P stop ≡ ToCreate code args → Wishes P 1000000 r.state w → is_create w ≡ true
 only_create P r (wish.Create which) stop code args at is w = refl
 only_create P r (wish.Read cell) stop code args at is w = absurd (let e = one_wish P r.state stop w.0 (ToCreate code args) (ToRead cell) at (at_event r.state w.0 w.1) is w.2 in cc)
 only_create P r (wish.Write cell value) stop code args at is w = absurd (let e = one_wish P r.state stop w.0 (ToCreate code args) (ToWrite cell value) at (at_event r.state w.0 w.1) is w.2 in cc)

@@ -11,3 +11,6 @@ pub mod Sameness
 pub mod Only
 pub mod Finding
 pub mod Stepping
+pub mod Finishing
+pub mod Reports
+pub mod Checked

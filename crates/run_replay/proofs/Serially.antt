@@ -72,7 +72,7 @@ ended_at [] t r each e = cc
 ended_at (q ∷ rs) zero r each e = let same : q ≡ r = some_same q r e in subst (λ (x : Running). IsSome x.value) same each.0
 ended_at (q ∷ rs) (suc t) r each e = ended_at rs t r each.1 e
 
-not_whole : (P : tree.Program) (h : List Event) (m : Machine) (t : ℕ) (r : Running) → Leads P (opening P) h m → IsRunning m t r → IsWhole P h → ⊥
+pub not_whole : (P : tree.Program) (h : List Event) (m : Machine) (t : ℕ) (r : Running) → Leads P (opening P) h m → IsRunning m t r → IsWhole P h → ⊥
 not_whole P h m t r leads run all =
     let same : all.0 ≡ m = leads_to_one P (opening P) h all.0 m all.1 leads in
     let some = ended_at m.tasks t r (subst (λ (n : Machine). EachEnded n.tasks) same all.2) run.0 in

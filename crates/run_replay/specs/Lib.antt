@@ -1,3 +1,4 @@
+pub mod Checks
 pub mod Next
 pub mod Ready
 pub mod Replays

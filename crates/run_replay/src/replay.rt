@@ -144,6 +144,13 @@ impl Replay {
         self.entries
     }
 
+    /// How many of them were creates.
+    pub(crate) fn creates(&self) -> u32
+        ensures { result ≡ self.now.creates }
+    {
+        self.creates
+    }
+
     /// Whether a task exists and has not ended.
     pub(crate) fn runs(&self, task: u32) -> bool
         ensures { result ≡ is_running (slice_get self.now.lines task) }
