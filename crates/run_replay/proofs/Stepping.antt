@@ -6,7 +6,7 @@ use Rattle.task_machine.specs.Machine.{Machine}
 use Rattle.task_code.specs.Flat.{Compiled}
 use Rattle.run_replay.specs.declared.step.StepStop.{StepStop}
 use Rattle.run_replay.specs.declared.step.StepStop.TheVariants as stop
-use Rattle.run_replay.specs.Replays.{ReplayNow, IsReplayOf, IsSomeReplay}
+use Rattle.run_replay.specs.Replays.{ReplayNow, IsSomeReplay}
 use Rattle.run_replay.specs.Steps.{IsStepped}
 
 pub some_after : (P : tree.Program) (code : Compiled) (h : List Event) (m : Machine) (e : Event) (new : ReplayNow) (told : Result Unit StepStop) → IsStepped P code h m e new told → IsSomeReplay code new
