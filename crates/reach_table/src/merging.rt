@@ -26,6 +26,7 @@ pub fn union(alloc: Global, one: &[Strand], other: &[Strand]) -> Result<Vec<Stra
     ensures strands { IfOk result (λ all. (w : Strand) → Among w all.items ↔ (Among w one.now ⊎ Among w other.now)) }
 {
     let mut all = Vec::new(alloc);
+    all.reserve(one.len() + other.len())?;
     let mut i = 0;
     let mut j = 0;
     while i < one.len() && j < other.len() {
