@@ -2,4 +2,3 @@ pub mod Bounds
 pub mod Completing
 pub mod Consuming
 pub mod Endings
-pub mod PieceLemmas

@@ -20,7 +20,7 @@ use Rattle.fut_check.specs.Items.{IsWellTyped, IsFirstFault}
 use Rattle.run_replay.specs.Serials.{IsSerialRun}
 use Rattle.fut_main.specs.Asking.{Asked, Asks}
 use Rattle.fut_main.specs.Due.{syntax_text, type_text}
-use Rattle.fut_main.specs.RunText.{run_text}
+use Rattle.run_record.specs.RunText.{run_text}
 use Rattle.fut_main.specs.declared.status.Status.{Status}
 use Rattle.fut_main.specs.declared.status.Status.TheVariants as status
 use Rattle.fut_main.specs.declared.words.Command.{Command}

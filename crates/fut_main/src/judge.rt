@@ -7,14 +7,15 @@ ghost use Rattle.fut_main.specs.Verdict.{IsVerdict};
 ghost use Rattle.fut_main.specs.Due.{verdict_text, syntax_text, type_text};
 ghost use Rattle.fut_main.specs.declared.status.Status.TheVariants as status;
 
+use crate::gathered::Gathered;
 use crate::input::{Input, read_all};
 use crate::outcome::{Outcome, outcome_of};
-use crate::pieces::{Piece, write_pieces};
-use crate::run_text::write_run;
 use crate::status::Status;
 use crate::words::Words;
 use fut_base::ports::{Sink, Source, Wrote, write_text};
 use fut_base::record::{Finish, History, Races, Text};
+use run_record::pieces::{Piece, write_pieces};
+use run_record::run_text::write_run;
 use std::alloc::Global;
 
 /// The greatest length of a program text, in bytes.
@@ -47,8 +48,19 @@ impl Verdict {
         }
     }
 
-    /// Writes the text that is due. It takes no memory.
-    pub fn write<K: Sink>(&self, out: &mut K) -> Wrote
+    /// Writes the text that is due, at once where there is memory to gather it, else piece by piece.
+    pub fn write<K: Sink>(&self, alloc: Global, out: &mut K) -> Wrote
+        ensures { Writes (K.held out.old) (K.held out.new) (K.faults out.old) (K.faults out.new) (verdict_text self.now.status self.now.program.items (events_of self.now.history) self.now.races.items self.now.printed.items) result }
+    {
+        let mut whole = Gathered::make(alloc);
+        match self.write_parts(&mut whole) {
+            Wrote::All => write_text(out, whole.bytes()),
+            Wrote::Failed => self.write_parts(out),
+        }
+    }
+
+    /// The same piece by piece. It takes no memory of its own.
+    fn write_parts<K: Sink>(&self, out: &mut K) -> Wrote
         ensures { Writes (K.held out.old) (K.held out.new) (K.faults out.old) (K.faults out.new) (verdict_text self.now.status self.now.program.items (events_of self.now.history) self.now.races.items self.now.printed.items) result }
     {
         match self.status {

@@ -3,11 +3,10 @@
 //! `forder` of the module `top` is the call that `main` makes. Its contract is the theorem.
 #![tactic(auto)]
 
+mod gathered;
 mod input;
 mod judge;
 mod outcome;
-mod pieces;
-mod run_text;
 mod status;
 #[cfg(test)]
 mod tests;

@@ -96,7 +96,7 @@ fn answer<S: Source, K: Sink>(
     ensures usage { result.status ≡ status.Usage → source.new ≡ source.old }
 {
     let verdict = judge(alloc, words, may_run, source);
-    match verdict.write(out) {
+    match verdict.write(alloc, out) {
         Wrote::All => Ended {
             status: verdict.status,
             history: verdict.history,
