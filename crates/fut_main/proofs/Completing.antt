@@ -141,7 +141,7 @@ not_refused bytes k (P, h, races, end, of, accepted) bad =
     let typed : IsWellTypedText of.program bad.tree = subst (λ p. IsWellTypedText p bad.tree) same.0 bad.record_is.typed in
     let tree_is : bad.tree ≡ P = one_program of.program bad.tree P typed.program of.typed.program in
     let moved : IsRefusedAt P h races end k =
-      subst (λ x. IsRefusedAt P h races x k) same.3 (subst (λ x. IsRefusedAt P h x bad.end k) same.2 (subst (λ x. IsRefusedAt P x bad.races bad.end k) same.1 (subst (λ x. IsRefusedAt x bad.events bad.races bad.end k) tree_is bad.refused))) in
+    subst (λ x. IsRefusedAt P h races x k) same.3 (subst (λ x. IsRefusedAt P h x bad.end k) same.2 (subst (λ x. IsRefusedAt P x bad.races bad.end k) same.1 (subst (λ x. IsRefusedAt x bad.events bad.races bad.end k) tree_is bad.refused))) in
     accepted_not_refused P h races end k accepted moved
 
 -- ---- the answer
@@ -149,12 +149,12 @@ not_refused bytes k (P, h, races, end, of, accepted) bad =
 text_typed : (a : Asked) (t : Told) (u : IsUnhindered a t) (c : Command) (bytes program : List ℕ) → Asks a c → IsRead a bytes → IsGiven c bytes program → (P : tree.Program) × IsWellTypedText program P
 text_typed a t u c bytes program words read given =
     given_typed c u.command bytes program (one_kind a.may_run a.words c u.command words u.words) given
-      (subst (IsFit u.command) (sym (read_is a t u bytes read)) u.fit)
+    (subst (IsFit u.command) (sym (read_is a t u bytes read)) u.fit)
 
 record_fit : (a : Asked) (t : Told) (u : IsUnhindered a t) (bytes : List ℕ) → Asks a command.Replay → IsRead a bytes → IsFit command.Replay bytes
 record_fit a t u bytes words read =
     record_fits u.command bytes (one_kind a.may_run a.words command.Replay u.command words u.words)
-      (subst (IsFit u.command) (sym (read_is a t u bytes read)) u.fit)
+    (subst (IsFit u.command) (sym (read_is a t u bytes read)) u.fit)
 
 not_too_long : (a : Asked) (t : Told) (u : IsUnhindered a t) (c : Command) → Asks a c → GaveTooMuch a (most_bytes c) → ⊥
 not_too_long a t u c words gave =

@@ -61,7 +61,13 @@ pub fn run_text(alloc: Global, text: &[u8], events: u32, brief: bool) -> Outcome
 }
 
 /// Runs the code of a text.
-fn run_code(alloc: Global, text: &[u8], code: &Code, events: u32, brief: bool) -> Result<Outcome, NoMemory>
+fn run_code(
+    alloc: Global,
+    text: &[u8],
+    code: &Code,
+    events: u32,
+    brief: bool,
+) -> Result<Outcome, NoMemory>
     requires program { (P : tree.Program) × IsWellTyped P × IsCodeOf P code.now }
     requires bounded { IsBound events }
     ensures { IfOk result (λ o. (P : tree.Program) → IsWellTyped P → IsCodeOf P code.now → RanAs P events brief text.now o.status (events_of o.history) o.text.items) }
@@ -81,7 +87,13 @@ fn run_code(alloc: Global, text: &[u8], code: &Code, events: u32, brief: bool) -
 }
 
 /// The record of a run, or its brief text.
-fn made(alloc: Global, text: &[u8], code: &Code, ran: &Ran, brief: bool) -> Result<Vec<u8>, NoMemory>
+fn made(
+    alloc: Global,
+    text: &[u8],
+    code: &Code,
+    ran: &Ran,
+    brief: bool,
+) -> Result<Vec<u8>, NoMemory>
     ensures { IfOk result (λ t. t.items ≡ run_due brief text.now code.now.arrays (events_of ran.now.history) ran.now.races.items ran.now.finish ran.now.cells.items) }
 {
     let mut made = Gathered::make(alloc);

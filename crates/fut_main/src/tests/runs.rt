@@ -205,13 +205,27 @@ fn brief_texts(rt: HostRuntime) -> Result<(), Fail> {
     let cases: [(&[&str], &str, Status, &str); 6] = [
         (&["serial", "--brief"], RACE, Status::Raced, race),
         (&["run", "--brief"], RACE, Status::Raced, race),
-        (&["run", "--brief", "--workers", "1"], SYNC, Status::Clean, sync),
-        (&["run", "--workers", "1", "--brief", "--events", "6"], RACE, Status::Raced, race),
+        (
+            &["run", "--brief", "--workers", "1"],
+            SYNC,
+            Status::Clean,
+            sync,
+        ),
+        (
+            &["run", "--workers", "1", "--brief", "--events", "6"],
+            RACE,
+            Status::Raced,
+            race,
+        ),
         (&["serial", "--events", "2", "--brief"], RACE, bound, spent),
         (
             &["serial", "--brief"],
             "task main() int { return x; }",
-            Status::IllTyped { rule: 1, line: 1, column: 26 },
+            Status::IllTyped {
+                rule: 1,
+                line: 1,
+                column: 26,
+            },
             "type 1 1:26\n",
         ),
     ];
