@@ -1,6 +1,6 @@
--- From what came of a program to the verdict on its text.
-use Rattle.std.proofs.Common.{◌≡◌, ℕ, ◌≤◌, List, [], ◌∷◌, length, refl, sym, ap, ◌∙◌, subst, arith}
-use Rattle.std.specs.Prelude.{Option, Some, None, IfSome, IsSomeAnd, Ok, ℤ}
+-- From what came of the bytes to a verdict.
+use Rattle.std.proofs.Common.{◌≡◌, ℕ, ◌+◌, ◌<◌, ◌^◌, Bool, List, [], ◌∷◌, length, inl, inr, refl, sym, ap, ◌∙◌, subst, ◌⊎◌}
+use Rattle.std.specs.Prelude.{Some, None, true, Ok, ℤ}
 use Rattle.fut_base.specs.declared.event.Event.{Event}
 use Rattle.fut_base.specs.declared.record.Race.{Race}
 use Rattle.fut_base.specs.declared.record.Finish.{Finish}
@@ -11,22 +11,47 @@ use Rattle.fut_syntax.specs.declared.tree.Program as declared
 use Rattle.fut_syntax.specs.declared.token.Place.{Place}
 use Rattle.fut_syntax.specs.Views.{program_tree}
 use Rattle.fut_syntax.specs.Texts.{Parses, IsProgram}
-use Rattle.fut_check.specs.Checks.{IsChecked, IsFaultOf}
+use Rattle.fut_check.specs.Checks.{HasPlaces, IsChecked, IsFaultOf}
 use Rattle.fut_check.specs.Items.{IsWellTyped}
-use Rattle.task_machine.specs.Machine.{Machine, opening, Leads, IsLegal, IsWhole}
+use Rattle.task_machine.specs.Texts.{cell_arrays}
 use Rattle.task_code.specs.Flat.{Compiled, IsCodeOf}
+use Rattle.run_record.specs.Records.{IsFault}
+use Rattle.run_replay.specs.Serials.{IsSerialRun}
+use Rattle.run_replay.specs.Checks.{IsAccepted}
 use Rattle.fut_main.specs.declared.status.Status.{Status}
 use Rattle.fut_main.specs.declared.status.Status.TheVariants as status
+use Rattle.fut_main.specs.declared.program.Refusal.{Refusal}
+use Rattle.fut_main.specs.declared.program.Refusal.TheVariants as refusal
 use Rattle.fut_main.specs.declared.words.Command.{Command}
 use Rattle.fut_main.specs.declared.words.Command.TheVariants as command
-use Rattle.run_record.specs.RunText.{run_text}
-use Rattle.run_replay.specs.Serials.{IsSerialRun}
-use Rattle.fut_main.specs.Asking.{Asked, Asks}
-use Rattle.fut_main.specs.Outcomes.{ending_of, WasRun, OutcomeOf, TextWasRun, IsOutcome}
-use Rattle.fut_main.specs.Due.{verdict_text}
-use Rattle.fut_main.specs.Verdict.{IsRead, IsWellTypedText, IsIllTypedText, IsRunOf, EndsIn, limits_of, IsOfRun, IsOfText, IsVerdict}
+use Rattle.fut_main.specs.Asking.{Asked, Asks, AreWordsOf}
+use Rattle.fut_main.specs.Due.{due_text, run_due, legal_text}
+use Rattle.fut_main.specs.Outcomes.{ending_of, status_of, IsOfTree, IsRefused, RanAs, IsOutcome}
+use Rattle.fut_main.specs.Verdict.{IsRead, IsWellTypedText, IsIllTypedText, IsPrinted, IsRunOf, Says, limits_of, IsOfRun, IsOfHistory, IsRecordOf, IsOfRecord, IsGiven, IsRefusedRecord, IsVerdict}
 
 -- ---- a program
+
+pub of_tree : (text : List ℕ) (p : declared.Program) → HasPlaces p → Parses text (Ok p) → IsOfTree text p
+of_tree text p places parsed = record { tree = parsed.0.0; is = parsed.0.1; program = parsed.0.2; places = places; tokens = parsed.1.0; cut = parsed.1.1 }
+
+-- the tree of a program is that of its text
+tree_is : (text : List ℕ) (p : declared.Program) (P : tree.Program) (of : IsOfTree text p) → program_tree p.items ≡ Some P → P ≡ of.tree
+tree_is text p P of is = let both : Some P ≡ Some of.tree = sym is ∙ of.is in cc
+
+pub faulty : (text : List ℕ) (p : declared.Program) (number : ℕ) (place : Place) → IsOfTree text p → IsFaultOf p number place → IsIllTypedText text number place
+faulty text p number place of f = record {
+  tree = f.tree;
+  program = subst (λ P. IsProgram text P) (sym (tree_is text p f.tree of f.is)) of.program;
+  fault = f.fault;
+  first = f.first;
+  rule = f.rule;
+  tokens = of.tokens;
+  places = p.places;
+  cut = of.cut;
+  stands = f.stands;
+}
+
+-- ---- how a run ended
 
 not_whole_events : (b : ℕ) → finish.Events b ≡ finish.Whole → ⊥
 not_whole_events b h = cc
@@ -37,84 +62,90 @@ not_whole_local t h = cc
 not_whole_futures : (t : ℕ) → finish.Futures t ≡ finish.Whole → ⊥
 not_whole_futures t h = cc
 
-pub ends_in : (P : tree.Program) (bound : ℕ) (h : List Event) (races : List Race) (end : Finish) → (cells : List ℤ) → IsSerialRun P (limits_of bound) h end cells → IsReport h races → EndsIn P bound (ending_of end races) h races
-ends_in P bound h [] finish.Whole cells run report = (record { cells = cells; run = run; report = report }, refl)
-ends_in P bound h (r ∷ rs) finish.Whole cells run report = (record { cells = cells; run = run; report = report }, λ none. absurd (cc))
-ends_in P bound h races (finish.Events b) cells run report = (record { cells = cells; run = run; report = report }, not_whole_events b)
-ends_in P bound h races (finish.Local t) cells run report = (record { cells = cells; run = run; report = report }, not_whole_local t)
-ends_in P bound h races (finish.Futures t) cells run report = (record { cells = cells; run = run; report = report }, not_whole_futures t)
+says : (end : Finish) (races : List Race) → Says (ending_of end races) end races
+says finish.Whole [] = (refl, refl)
+says finish.Whole (r ∷ rs) = (refl, λ none. absurd (cc))
+says (finish.Events b) races = (refl, not_whole_events b)
+says (finish.Local t) races = (refl, not_whole_local t)
+says (finish.Futures t) races = (refl, not_whole_futures t)
 
-pub run_ends : (o : Option tree.Program) (code : Compiled) (bound : ℕ) (h : List Event) (races : List Race) (end : Finish) (cells : List ℤ) (s : Status) → ((P : tree.Program) → o ≡ Some P → IsCodeOf P code) → IsSomeAnd o IsWellTyped → ((P : tree.Program) → IsWellTyped P → IsCodeOf P code → IsSerialRun P (limits_of bound) h end cells) → IsReport h races → s ≡ ending_of end races → IfSome o (λ P. EndsIn P bound s h races)
-run_ends None code bound h races end cells s of typed run report is = tt
-run_ends (Some P) code bound h races end cells s of typed run report is = subst (λ x. EndsIn P bound x h races) (sym is) (ends_in P bound h races end cells (run P typed (of P refl)) report)
-
--- ---- a text
-
--- the text of a program that breaks no rule
-typed : (text : List ℕ) (p : declared.Program) (parsed : Parses text (Ok p)) → IsChecked p → IsWellTypedText text parsed.0.0
-typed text p parsed checked = record { program = parsed.0.2; well_typed = subst (λ o. IsSomeAnd o IsWellTyped) parsed.0.1 checked }
-
--- the tree of a program is that of its text
-tree_is : (text : List ℕ) (p : declared.Program) (P : tree.Program) (parsed : Parses text (Ok p)) → program_tree p.items ≡ Some P → P ≡ parsed.0.0
-tree_is text p P parsed is = let both : Some P ≡ Some parsed.0.0 = sym is ∙ parsed.0.1 in cc
-
-was_run : (c : Command) (text : List ℕ) (p : declared.Program) (s : Status) (h : List Event) (races : List Race) → Parses text (Ok p) → WasRun c p s h races → TextWasRun c text s h races
-was_run c text p s h races parsed run = (
-  run.0,
-  run.1,
-  (parsed.0.0, typed text p parsed run.2, subst (λ o. IfSome o (λ Q. EndsIn Q run.0 s h races)) parsed.0.1 run.3),
-)
-
-faulty : (text : List ℕ) (p : declared.Program) (number : ℕ) (place : Place) → Parses text (Ok p) → IsFaultOf p number place → IsIllTypedText text number place
-faulty text p number place parsed f = record {
-  tree = f.tree;
-  program = subst (λ P. IsProgram text P) (sym (tree_is text p f.tree parsed f.is)) parsed.0.2;
-  fault = f.fault;
-  first = f.first;
-  rule = f.rule;
-  tokens = parsed.1.0;
-  places = p.places;
-  cut = parsed.1.1;
-  stands = f.stands;
+pub ran_as : (P : tree.Program) (bound : ℕ) (brief : Bool) (text : List ℕ) (s : Status) (h : List Event) (made : List ℕ) (code : Compiled) (races : List Race) (end : Finish) (cells : List ℤ) → s ≡ ending_of end races → IsSerialRun P (limits_of bound) h end cells → IsReport h races → made ≡ run_due brief text code.arrays h races end cells → IsCodeOf P code → RanAs P bound brief text s h made
+ran_as P bound brief text s h made code races end cells is run report due of = record {
+  races = races;
+  end = end;
+  cells = cells;
+  status = is;
+  ends = (record { run = run; report = report }, subst (λ x. Says x end races) (sym is) (says end races));
+  text_is = due ∙ ap (λ arrays. run_due brief text arrays h races end cells) of.arrays;
 }
 
-pub outcome : (c : Command) (text : List ℕ) (p : declared.Program) (s : Status) (h : List Event) (races : List Race) (printed : List ℕ) → Parses text (Ok p) → OutcomeOf c p s h races printed → IsOutcome c text s h races printed
-outcome c text p status.Accepted h races printed parsed o = (o.0, o.1, (parsed.0.0, typed text p parsed o.2, o.3 parsed.0.0 parsed.0.1))
-outcome c text p (status.IllTyped rule line column) h races printed parsed o = (o.0, faulty text p rule (record { line = line; column = column }) parsed o.1)
-outcome c text p status.NoMemory h races printed parsed o = o
-outcome c text p status.Clean h races printed parsed o = was_run c text p status.Clean h races parsed o
-outcome c text p status.Raced h races printed parsed o = was_run c text p status.Raced h races parsed o
-outcome c text p (status.Spent end) h races printed parsed o = was_run c text p (status.Spent end) h races parsed o
-outcome c text p (status.Syntax line column) h races printed parsed o = absurd o
-outcome c text p status.ReadFault h races printed parsed o = absurd o
-outcome c text p status.WriteFault h races printed parsed o = absurd o
-outcome c text p status.Usage h races printed parsed o = absurd o
-outcome c text p status.TooLong h races printed parsed o = absurd o
+-- ---- verdicts
 
--- ---- the verdict
+of_run : (a : Asked) (bound : ℕ) (brief : Bool) (text : List ℕ) (P : tree.Program) (s : Status) (h : List Event) (made : List ℕ) → Asks a (command.Run bound brief) → IsRead a text → IsWellTypedText text P → RanAs P bound brief text s h made → IsOfHistory a s h made
+of_run a bound brief text P s h made words read typed r = inl (record {
+  bound = bound;
+  brief = brief;
+  words = words;
+  bytes = text;
+  read = read;
+  tree = P;
+  program = typed;
+  races = r.races;
+  end = r.end;
+  cells = r.cells;
+  ends = r.ends;
+  is_due = r.text_is;
+})
 
-of_run : (a : Asked) (c : Command) (text : List ℕ) (s : Status) (end : Finish) (h : List Event) (races : List Race) (due : List ℕ) → Asks a c → IsRead a text → TextWasRun c text s h races → due ≡ run_text text h races end → IsOfRun a s end h due
-of_run a c text s end h races due words read o is = record { bound = o.0; words = subst (Asks a) o.1 words; bytes = text; read = read; tree = o.2.0; program = o.2.1; races = races; ends = o.2.2; record_due = is }
+pub run_verdict : (a : Asked) (bound : ℕ) (brief : Bool) (text : List ℕ) (P : tree.Program) (s : Status) (h : List Event) (made : List ℕ) → IsWellTypedText text P → RanAs P bound brief text s h made → Asks a (command.Run bound brief) → IsRead a text → IsVerdict a s h (due_text s made)
+run_verdict a bound brief text P status.Clean h made typed r words read = of_run a bound brief text P status.Clean h made words read typed r
+run_verdict a bound brief text P status.Raced h made typed r words read = of_run a bound brief text P status.Raced h made words read typed r
+run_verdict a bound brief text P (status.Spent end) h made typed r words read = of_run a bound brief text P (status.Spent end) h made words read typed r
+run_verdict a bound brief text P status.Accepted h made typed r words read = absurd r.ends.1
+run_verdict a bound brief text P (status.Syntax line column) h made typed r words read = absurd r.ends.1
+run_verdict a bound brief text P (status.IllTyped rule line column) h made typed r words read = absurd r.ends.1
+run_verdict a bound brief text P (status.NotLegal entry) h made typed r words read = absurd r.ends.1
+run_verdict a bound brief text P (status.NotRun byte) h made typed r words read = absurd r.ends.1
+run_verdict a bound brief text P status.ReadFault h made typed r words read = absurd r.ends.1
+run_verdict a bound brief text P status.WriteFault h made typed r words read = absurd r.ends.1
+run_verdict a bound brief text P status.NoMemory h made typed r words read = absurd r.ends.1
+run_verdict a bound brief text P status.Usage h made typed r words read = absurd r.ends.1
+run_verdict a bound brief text P status.TooLong h made typed r words read = absurd r.ends.1
 
-pub judged : (a : Asked) (c : Command) (text : List ℕ) (s : Status) (h : List Event) (races : List Race) (printed : List ℕ) → Asks a c → IsRead a text → IsOutcome c text s h races printed → IsVerdict a s h (verdict_text s text h races printed)
-judged a c text status.Clean h races printed words read o = of_run a c text status.Clean finish.Whole h races _ words read o refl
-judged a c text status.Raced h races printed words read o = of_run a c text status.Raced finish.Whole h races _ words read o refl
-judged a c text (status.Spent end) h races printed words read o = of_run a c text (status.Spent end) end h races _ words read o refl
-judged a c text status.Accepted h races printed words read o = (
-  subst (Asks a) o.0 words,
-  record { command = c; words = words; no_run = o.1; is_due = refl; bytes = text; read = read; holds = o.2 },
-)
-judged a c text (status.Syntax line column) h races printed words read o =
-    record { command = c; words = words; no_run = o.0; is_due = refl; bytes = text; read = read; holds = o.1 }
-judged a c text (status.IllTyped rule line column) h races printed words read o =
-    record { command = c; words = words; no_run = o.0; is_due = refl; bytes = text; read = read; holds = o.1 }
-judged a c text status.NoMemory h races printed words read o = (o, refl, read.quiet)
-judged a c text status.ReadFault h races printed words read o = absurd o
-judged a c text status.WriteFault h races printed words read o = absurd o
-judged a c text status.Usage h races printed words read o = absurd o
-judged a c text status.TooLong h races printed words read o = absurd o
+-- a record that was accepted
+record_by : (a : Asked) (bytes : List ℕ) (P : tree.Program) (h : List Event) (races : List Race) (end : Finish) (s : Status) (made : List ℕ) → Says s end races → IsRecordOf bytes P h races end → IsAccepted P h races end → made ≡ legal_text (length h) (length races) → Asks a command.Replay → IsRead a bytes → IsOfHistory a s h made
+record_by a bytes P h races end s made says of accepted due words read =
+    inr (record { words = words; bytes = bytes; read = read; tree = P; races = races; end = end; record_is = of; accepted = accepted; says = says; is_due = due })
 
--- the code is of some well-typed program
-pub some_program : (o : Option tree.Program) (code : Compiled) → ((P : tree.Program) → o ≡ Some P → IsCodeOf P code) → IsSomeAnd o IsWellTyped → (P : tree.Program) × IsWellTyped P × IsCodeOf P code
-some_program None code of typed = absurd typed
-some_program (Some P) code of typed = (P, typed, of P refl)
+pub record_verdict : (a : Asked) (bytes : List ℕ) (P : tree.Program) (h : List Event) (races : List Race) (end : Finish) (made : List ℕ) → IsRecordOf bytes P h races end → IsAccepted P h races end → made ≡ legal_text (length h) (length races) → Asks a command.Replay → IsRead a bytes → IsVerdict a (ending_of end races) h (due_text (ending_of end races) made)
+record_verdict a bytes P h [] finish.Whole made of accepted due words read = record_by a bytes P h [] finish.Whole status.Clean made (says finish.Whole []) of accepted due words read
+record_verdict a bytes P h (r ∷ rs) finish.Whole made of accepted due words read = record_by a bytes P h (r ∷ rs) finish.Whole status.Raced made (says finish.Whole (r ∷ rs)) of accepted due words read
+record_verdict a bytes P h races (finish.Events b) made of accepted due words read = record_by a bytes P h races (finish.Events b) (status.Spent (finish.Events b)) made (says (finish.Events b) races) of accepted due words read
+record_verdict a bytes P h races (finish.Local t) made of accepted due words read = record_by a bytes P h races (finish.Local t) (status.Spent (finish.Local t)) made (says (finish.Local t) races) of accepted due words read
+record_verdict a bytes P h races (finish.Futures t) made of accepted due words read = record_by a bytes P h races (finish.Futures t) (status.Spent (finish.Futures t)) made (says (finish.Futures t) races) of accepted due words read
+
+-- the program text was refused
+refused_as : (a : Asked) (c : Command) (bytes program : List ℕ) (f : Refusal) (h : List Event) (made : List ℕ) → h ≡ [] → IsGiven c bytes program → IsRefused program f → Asks a c → IsRead a bytes → IsVerdict a (status_of f) h (due_text (status_of f) made)
+refused_as a c bytes program (refusal.Syntax line column) h made none given is words read =
+    (c, record { words = words; no_run = none; is_due = refl; bytes = bytes; read = read; holds = (program, given, is) })
+refused_as a c bytes program (refusal.IllTyped rule line column) h made none given is words read =
+    (c, record { words = words; no_run = none; is_due = refl; bytes = bytes; read = read; holds = (program, given, is) })
+refused_as a c bytes program refusal.NoMemory h made none given is words read = (none, refl, read.quiet)
+
+pub refused : (a : Asked) (c : Command) (bytes program : List ℕ) (f : Refusal) (s : Status) (h : List Event) (made : List ℕ) → s ≡ status_of f → h ≡ [] → IsGiven c bytes program → IsRefused program f → Asks a c → IsRead a bytes → IsVerdict a s h (due_text s made)
+refused a c bytes program f s h made is none given holds words read =
+    subst (λ x. IsVerdict a x h (due_text x made)) (sym is) (refused_as a c bytes program f h made none given holds words read)
+
+pub not_run : (a : Asked) (s : Status) (h : List Event) (made bytes : List ℕ) (byte : ℕ) → s ≡ status.NotRun byte → h ≡ [] → IsFault bytes byte → Asks a command.Replay → IsRead a bytes → IsVerdict a s h (due_text s made)
+not_run a s h made bytes byte is none fault words read =
+    subst (λ x. IsVerdict a x h (due_text x made)) (sym is) (record { words = words; no_run = none; is_due = refl; bytes = bytes; read = read; holds = fault })
+
+-- ---- words
+
+-- what comes of words of a command is no usage
+pub not_usage : (m : Bool) (words : List (List ℕ)) (c : Command) (bytes : List ℕ) (s : Status) (h : List Event) (made : List ℕ) → AreWordsOf m words c → IsOutcome c bytes s h made → s ≡ status.Usage → ⊥
+not_usage m words c bytes s h made asks o is =
+    let a : Asked = record { may_run = m; words = words; left_before = None; left_after = None; ended = true; faults_before = 0; faults_after = 0 } in
+    let read : IsRead a bytes = record { taken = tt; nothing_left = tt; ended = refl; quiet = refl } in
+    let v : IsVerdict a status.Usage h (due_text status.Usage made) = subst (λ x. IsVerdict a x h (due_text x made)) is (o a asks read) in
+    v.0 c asks

@@ -1,4 +1,5 @@
-pub mod Bounds
+pub mod Choosing
 pub mod Completing
 pub mod Consuming
 pub mod Endings
+pub mod Wording

@@ -3,4 +3,5 @@ pub mod Due
 pub mod Numbers
 pub mod Outcomes
 pub mod Reading
+pub mod Seen
 pub mod Verdict

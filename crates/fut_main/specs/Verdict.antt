@@ -1,5 +1,5 @@
 -- What `forder` and `plain` answer, and why.
-use Rattle.std.specs.Prelude.{◌≡◌, ◌≢◌, ℕ, ◌+◌, ◌≤◌, true, List, [], ◌∷◌, ◌++◌, length, codes, slice_get, Option, Some, ◌⊎◌, ℤ}
+use Rattle.std.specs.Prelude.{◌≡◌, ◌≢◌, ℕ, ◌+◌, ◌≤◌, Bool, true, List, [], ◌∷◌, ◌++◌, length, codes, slice_get, Option, Some, ◌⊎◌, ℤ}
 use Rattle.std.specs.Io.KnownBytes.{Appends, Consumes, IsAtEnd}
 use Rattle.fut_base.specs.declared.event.Event.{Event}
 use Rattle.fut_base.specs.declared.record.Race.{Race}
@@ -17,10 +17,12 @@ use Rattle.fut_syntax.specs.Texts.{IsProgram, IsFaultPlace}
 use Rattle.fut_check.specs.declared.fault.Fault.{Fault}
 use Rattle.fut_check.specs.Faults.{rule_number}
 use Rattle.fut_check.specs.Items.{IsWellTyped, IsFirstFault}
+use Rattle.task_machine.specs.Texts.{cell_arrays}
 use Rattle.run_replay.specs.Serials.{IsSerialRun}
-use Rattle.fut_main.specs.Asking.{Asked, Asks}
-use Rattle.fut_main.specs.Due.{syntax_text, type_text}
-use Rattle.run_record.specs.RunText.{run_text}
+use Rattle.run_replay.specs.Checks.{IsAccepted, IsRefusedAt}
+use Rattle.run_record.specs.Records.{IsRunText, IsFault}
+use Rattle.fut_main.specs.Asking.{Asked, Asks, most_bytes}
+use Rattle.fut_main.specs.Due.{syntax_text, type_text, legal_text, not_legal_text, not_run_text, run_due}
 use Rattle.fut_main.specs.declared.status.Status.{Status}
 use Rattle.fut_main.specs.declared.status.Status.TheVariants as status
 use Rattle.fut_main.specs.declared.words.Command.{Command}
@@ -35,10 +37,10 @@ pub record IsRead (a : Asked) (bytes : List ℕ) : Type 0 where
   pub ended : a.ended ≡ true
   pub quiet : a.faults_after ≡ a.faults_before
 
--- the source gave 1,048,577 bytes, and no take failed
-pub record GaveTooMuch (a : Asked) : Type 0 where
+-- the source gave one byte more than the most that are read, and no take failed
+pub record GaveTooMuch (a : Asked) (most : ℕ) : Type 0 where
   pub bytes : List ℕ
-  pub long : length bytes ≡ 1048577
+  pub long : length bytes ≡ most + 1
   pub taken : Consumes a.left_before a.left_after bytes
   pub quiet : a.faults_after ≡ a.faults_before
 
@@ -71,60 +73,114 @@ IsPrinted bytes printed = (P : tree.Program) × IsWellTypedText bytes P × (prin
 abbrev pub limits_of : ℕ → Limits
 limits_of bound = record { events = bound; local_steps = 1000000; futures = 4096 }
 
--- a history is the serial run of a program up to so many entries, which ended so, and these are its races
-pub record IsRunOf (P : tree.Program) (bound : ℕ) (h : List Event) (end : Finish) (races : List Race) : Type 0 where
-  pub cells : List ℤ
+-- a history is the serial run of a program up to so many entries, which ended so with these values in its cells, and these are
+-- its races
+pub record IsRunOf (P : tree.Program) (bound : ℕ) (h : List Event) (end : Finish) (races : List Race) (cells : List ℤ) : Type 0 where
   pub run : IsSerialRun P (limits_of bound) h end cells
   pub report : IsReport h races
 
--- how the run of a program ended: whole without a race, whole with one, or spent
-abbrev pub EndsIn : tree.Program → ℕ → Status → List Event → List Race → Type 0
-EndsIn P bound status.Clean h races = IsRunOf P bound h finish.Whole races × (races ≡ [])
-EndsIn P bound status.Raced h races = IsRunOf P bound h finish.Whole races × (races ≢ [])
-EndsIn P bound (status.Spent end) h races = IsRunOf P bound h end races × (end ≢ finish.Whole)
-EndsIn P bound _ h races = ⊥
+-- a status says how a run ended that has these races: whole without a race, whole with one, or spent
+abbrev pub Says : Status → Finish → List Race → Type 0
+Says status.Clean end races = (end ≡ finish.Whole) × (races ≡ [])
+Says status.Raced end races = (end ≡ finish.Whole) × (races ≢ [])
+Says (status.Spent spent) end races = (end ≡ spent) × (end ≢ finish.Whole)
+Says _ end races = ⊥
+
+-- a program was run, and the status says how that run ended
+abbrev pub EndsIn : tree.Program → ℕ → Status → Finish → List Event → List Race → List ℤ → Type 0
+EndsIn P bound s end h races cells = IsRunOf P bound h end races cells × Says s end races
 
 -- ---- verdicts
 
 -- the words ask for a run, all the source's bytes were read, they are a program that breaks no type rule, its run ended
--- so, and the record of that run is due
-pub record IsOfRun (a : Asked) (s : Status) (end : Finish) (h : List Event) (text : List ℕ) : Type 0 where
+-- so, and the record of that run is due, or its brief text
+pub record IsOfRun (a : Asked) (s : Status) (h : List Event) (text : List ℕ) : Type 0 where
   pub bound : ℕ
-  pub words : Asks a (command.Run bound)
+  pub brief : Bool
+  pub words : Asks a (command.Run bound brief)
   pub bytes : List ℕ
   pub read : IsRead a bytes
   pub tree : tree.Program
   pub program : IsWellTypedText bytes tree
   pub races : List Race
-  pub ends : EndsIn tree bound s h races
-  pub record_due : text ≡ run_text bytes h races end
+  pub end : Finish
+  pub cells : List ℤ
+  pub ends : EndsIn tree bound s end h races cells
+  pub is_due : text ≡ run_due brief bytes (cell_arrays tree) h races end cells
 
--- the words ask for one of the commands, no run was made, and this is due; all the source's bytes were read, and this
--- holds of them
-pub record IsOfText (a : Asked) (h : List Event) (text due : List ℕ) (Holds : List ℕ → Type 0) : Type 0 where
-  pub command : Command
-  pub words : Asks a command
+-- the bytes are the run text of a program text, a history, races and a finish, and the text is this program without a fault
+pub record IsRecordOf (bytes : List ℕ) (P : tree.Program) (h : List Event) (races : List Race) (end : Finish) : Type 0 where
+  pub program : List ℕ
+  pub record_is : IsRunText bytes program h races end
+  pub typed : IsWellTypedText program P
+
+-- the words ask for a replay, all the source's bytes were read, they are the record of a program with this history, it is
+-- accepted, the status says how it ended, and the line with its counts is due
+pub record IsOfRecord (a : Asked) (s : Status) (h : List Event) (text : List ℕ) : Type 0 where
+  pub words : Asks a command.Replay
+  pub bytes : List ℕ
+  pub read : IsRead a bytes
+  pub tree : tree.Program
+  pub races : List Race
+  pub end : Finish
+  pub record_is : IsRecordOf bytes tree h races end
+  pub accepted : IsAccepted tree h races end
+  pub says : Says s end races
+  pub is_due : text ≡ legal_text (length h) (length races)
+
+-- a run or a legal record
+abbrev pub IsOfHistory : Asked → Status → List Event → List ℕ → Type 0
+IsOfHistory a s h text = IsOfRun a s h text ⊎ IsOfRecord a s h text
+
+-- the program text that a command finds in the bytes: in a record the one that it names, else all the bytes
+abbrev pub IsGiven : Command → List ℕ → List ℕ → Type 0
+IsGiven command.Replay bytes program = (h : List Event) × (races : List Race) × (end : Finish) × IsRunText bytes program h races end
+IsGiven command.Check bytes program = program ≡ bytes
+IsGiven (command.Run bound brief) bytes program = program ≡ bytes
+
+-- the words ask for this command, no run was made, and this is due; all the source's bytes were read, and this holds of them
+pub record IsOfBytes (a : Asked) (c : Command) (h : List Event) (text due : List ℕ) (Holds : List ℕ → Type 0) : Type 0 where
+  pub words : Asks a c
   pub no_run : h ≡ []
   pub is_due : text ≡ due
   pub bytes : List ℕ
   pub read : IsRead a bytes
   pub holds : Holds bytes
 
+-- the same of some command, and it holds of the program text that the command finds in the bytes
+abbrev pub IsOfText : Asked → List Event → List ℕ → List ℕ → (List ℕ → Type 0) → Type 0
+IsOfText a h text due Holds =
+    (c : Command) × IsOfBytes a c h text due (λ bytes. (program : List ℕ) × IsGiven c bytes program × Holds program)
+
+-- the bytes are the record of a program, which is refused at this entry
+pub record IsRefusedRecord (bytes : List ℕ) (entry : ℕ) : Type 0 where
+  pub tree : tree.Program
+  pub events : List Event
+  pub races : List Race
+  pub end : Finish
+  pub record_is : IsRecordOf bytes tree events races end
+  pub refused : IsRefusedAt tree events races end entry
+
 -- a status with the history that is answered and the text that is due, and what must have come about for it
 abbrev pub IsVerdict : Asked → Status → List Event → List ℕ → Type 0
-IsVerdict a status.Clean h text = IsOfRun a status.Clean finish.Whole h text
-IsVerdict a status.Raced h text = IsOfRun a status.Raced finish.Whole h text
-IsVerdict a (status.Spent end) h text = IsOfRun a (status.Spent end) end h text
+IsVerdict a status.Clean h text = IsOfHistory a status.Clean h text
+IsVerdict a status.Raced h text = IsOfHistory a status.Raced h text
+IsVerdict a (status.Spent end) h text = IsOfHistory a (status.Spent end) h text
 -- the text is a program that breaks no type rule, and its canonical text is due
-IsVerdict a status.Accepted h text = Asks a command.Check × IsOfText a h text text (λ bytes. IsPrinted bytes text)
+IsVerdict a status.Accepted h text = IsOfBytes a command.Check h text text (λ bytes. IsPrinted bytes text)
 -- the text is no program
 IsVerdict a (status.Syntax line column) h text =
-    IsOfText a h text (syntax_text line column) (λ bytes. IsFaultPlace bytes (record { line = line; column = column }))
+    IsOfText a h text (syntax_text line column) (λ program. IsFaultPlace program (record { line = line; column = column }))
 -- the text is a program, and breaks a type rule
 IsVerdict a (status.IllTyped rule line column) h text =
-    IsOfText a h text (type_text rule line column) (λ bytes. IsIllTypedText bytes rule (record { line = line; column = column }))
--- the source gave 1,048,577 bytes
-IsVerdict a status.TooLong h text = ((c : Command) × Asks a c) × (h ≡ []) × (text ≡ codes "too long\n") × GaveTooMuch a
+    IsOfText a h text (type_text rule line column) (λ program. IsIllTypedText program rule (record { line = line; column = column }))
+-- the bytes are the record of a program, and it is refused
+IsVerdict a (status.NotLegal entry) h text =
+    IsOfBytes a command.Replay h text (not_legal_text entry) (λ bytes. IsRefusedRecord bytes entry)
+-- the bytes are no run text
+IsVerdict a (status.NotRun byte) h text = IsOfBytes a command.Replay h text (not_run_text byte) (λ bytes. IsFault bytes byte)
+-- the source gave one byte more than the command reads
+IsVerdict a status.TooLong h text = ((c : Command) × Asks a c × GaveTooMuch a (most_bytes c)) × (h ≡ []) × (text ≡ codes "too long\n")
 -- a take failed
 IsVerdict a status.ReadFault h text =
     ((c : Command) × Asks a c) × (h ≡ []) × (text ≡ codes "read fault\n") × (a.faults_before ≤ a.faults_after) × Rose a.faults_before a.faults_after
@@ -164,28 +220,34 @@ abbrev pub IsAnswer : Asked → Told → Status → List Event → Type 0
 IsAnswer a t status.WriteFault h = IsCutOff a t h
 IsAnswer a t s h = IsAnswered a t s h
 
--- the words ask for a run
-abbrev pub AsksRun : Asked → Type 0
-AsksRun a = (bound : ℕ) × Asks a (command.Run bound)
+-- the words ask for a run, or for a replay
+abbrev pub AsksHistory : Asked → Type 0
+AsksHistory a = ((bound : ℕ) × (brief : Bool) × Asks a (command.Run bound brief)) ⊎ Asks a command.Replay
 
--- the answers to a well-typed program that nothing hinders
+-- the answers to what nothing hinders
 abbrev pub IsFree : Asked → Status → Type 0
 IsFree a status.Accepted = Asks a command.Check
-IsFree a status.Clean = AsksRun a
-IsFree a status.Raced = AsksRun a
-IsFree a (status.Spent _) = AsksRun a
+IsFree a status.Clean = AsksHistory a
+IsFree a status.Raced = AsksHistory a
+IsFree a (status.Spent _) = AsksHistory a
 IsFree a status.NoMemory = Unit {0}
 IsFree a _ = ⊥
 
--- the words ask for a command, the source tells that it has a well-typed program of at most 1,048,576 bytes left, and no
--- count of faults rose
+-- the bytes are what a command reads: a program without a fault, or a record of one that is accepted
+abbrev pub IsFit : Command → List ℕ → Type 0
+IsFit command.Check bytes = (P : tree.Program) × IsWellTypedText bytes P
+IsFit (command.Run bound brief) bytes = (P : tree.Program) × IsWellTypedText bytes P
+IsFit command.Replay bytes =
+    (P : tree.Program) × (h : List Event) × (races : List Race) × (end : Finish) × IsRecordOf bytes P h races end × IsAccepted P h races end
+
+-- the words ask for a command, the source tells that it has left what the command reads, a program text of at most 1,048,576
+-- bytes or a record of at most 67,108,864, and no count of faults rose
 pub record IsUnhindered (a : Asked) (t : Told) : Type 0 where
   pub command : Command
   pub words : Asks a command
   pub bytes : List ℕ
-  pub tree : tree.Program
   pub left : a.left_before ≡ Some bytes
-  pub short : length bytes ≤ 1048576
-  pub program : IsWellTypedText bytes tree
+  pub short : length bytes ≤ most_bytes command
+  pub fit : IsFit command bytes
   pub source_quiet : Rose a.faults_before a.faults_after → ⊥
   pub sink_quiet : Rose t.faults_before t.faults_after → ⊥

@@ -8,7 +8,7 @@ use std::alloc::Global;
 /// A sink that keeps what it takes. A put fails where memory is wanting.
 #[derive(Drop)]
 pub struct Gathered {
-    bytes: Vec<u8>,
+    pub bytes: Vec<u8>,
     faults: u64,
 }
 
@@ -22,13 +22,6 @@ impl Gathered {
             bytes: Vec::new(alloc),
             faults: 0,
         }
-    }
-
-    /// What was put so far.
-    pub fn bytes(&self) -> &[u8]
-        ensures { result.now ≡ self.now.bytes.items }
-    {
-        self.bytes.as_slice()
     }
 }
 

@@ -1,4 +1,5 @@
-//! The program `forder`: it runs a program of the task language, and reports its determinacy races.
+//! The program `forder`: it runs a program of the task language, and reports its determinacy races; or checks the record of
+//! such a run.
 //!
 //! `forder` of the module `top` is the call that `main` makes. Its contract is the theorem.
 #![tactic(auto)]
@@ -6,7 +7,12 @@
 mod gathered;
 mod input;
 mod judge;
+mod options;
 mod outcome;
+mod program;
+mod reading;
+mod replay;
+mod run;
 mod status;
 #[cfg(test)]
 mod tests;

@@ -1,138 +1,78 @@
-//! From the bytes of a text to what came of it.
-ghost use Rattle.std.specs.Prelude.{◌≡◌, ◌≤◌, [], length, IfOk, IfSome, IsSomeAnd};
+//! How a call ends, before its text is written, and the text that is due.
+ghost use Rattle.std.specs.Prelude.{◌≡◌, [], ◌++◌, IfOk, codes, decimal};
 ghost use Rattle.fut_base.specs.Events.{events_of};
-ghost use Rattle.fut_syntax.specs.Views.{program_tree};
-ghost use Rattle.fut_check.specs.Checks.{HasPlaces, IsChecked};
-ghost use Rattle.fut_main.specs.Asking.{IsBound, IsBounded};
-ghost use Rattle.fut_main.specs.Verdict.{EndsIn};
-ghost use Rattle.fut_main.specs.Outcomes.{OutcomeOf, IsOutcome, ending_of};
-ghost use Rattle.fut_main.specs.declared.words.Command.TheVariants as command;
+ghost use Rattle.fut_base.specs.Ports.{Writes};
+ghost use Rattle.fut_main.specs.Due.{due_text, legal_text, syntax_text, type_text};
+ghost use Rattle.fut_main.specs.Outcomes.{ending_of, status_of};
 
+use crate::gathered::Gathered;
+use crate::program::Refusal;
 use crate::status::Status;
-use crate::words::Command;
 use fut_base::list::NoMemory;
-use fut_base::record::{Finish, History, Limits, Races, Text};
-use fut_check::{CheckFault, Checked, check};
-use fut_syntax::tree::Program;
-use fut_syntax::{ParseFault, parse, print};
-use run_replay::serial::serial;
+use fut_base::ports::{Sink, Wrote, write_text};
+use fut_base::record::{Finish, History, Races};
+use run_record::pieces::{Piece, write_pieces};
 use std::alloc::Global;
-use task_code::code::Code;
 
-/// The greatest number of local steps of a task in a row.
-const MOST_STEPS: u32 = 1_000_000;
-
-/// The greatest number of futures that a run creates.
-const MOST_FUTURES: u32 = 4096;
-
-/// What came of a text: the status, the history of its run and its races, and the canonical text where it was printed.
+/// How a call ends: the status, the history that is answered, and, with the statuses of a program that was printed or of a
+/// run, the text that is due.
 #[derive(Drop)]
 pub struct Outcome {
     pub status: Status,
     pub history: History,
-    pub races: Races,
-    pub printed: Text,
+    pub text: Vec<u8>,
 }
 
 impl Outcome {
-    /// No run was made, and nothing was printed.
-    fn without_run(alloc: Global, status: Status) -> Outcome
+    /// No history, and no text that was made.
+    pub fn bare(alloc: Global, status: Status) -> Outcome
         ensures status { result.status ≡ status }
         ensures history { events_of result.history ≡ [] }
+        ensures text { result.text.items ≡ [] }
     {
         Outcome {
             status,
             history: History::make(alloc),
-            races: Races::make(alloc),
-            printed: Text::make(alloc),
+            text: Vec::new(alloc),
         }
     }
-}
 
-/// What comes of a text of at most 1,048,576 bytes.
-pub fn outcome_of(alloc: Global, command: Command, text: &[u8]) -> Outcome
-    requires short { length text.now ≤ 1048576 }
-    requires bounded { IsBounded command }
-    ensures { IsOutcome command text.now result.status (events_of result.history) result.races.items result.printed.items }
-{
-    match parse(alloc, text) {
-        Ok(program) => outcome_of_program(alloc, command, &program),
-        Err(ParseFault::Syntax { line, column }) => Outcome::without_run(
-            alloc,
-            Status::Syntax { line, column },
-        ),
-        Err(ParseFault::NoMemory) => Outcome::without_run(alloc, Status::NoMemory),
+    /// The text was no program without a fault.
+    pub fn refused(alloc: Global, refusal: Refusal) -> Outcome
+        ensures status { result.status ≡ status_of refusal }
+        ensures history { events_of result.history ≡ [] }
+    {
+        let status = match refusal {
+            Refusal::Syntax { line, column } => Status::Syntax { line, column },
+            Refusal::IllTyped { rule, line, column } => Status::IllTyped { rule, line, column },
+            Refusal::NoMemory => Status::NoMemory,
+        };
+        Outcome::bare(alloc, status)
     }
-}
 
-/// What comes of a program: its type rules are checked first.
-fn outcome_of_program(alloc: Global, command: Command, program: &Program) -> Outcome
-    requires places { HasPlaces program.now }
-    requires bounded { IsBounded command }
-    ensures { OutcomeOf command program.now result.status (events_of result.history) result.races.items result.printed.items }
-{
-    match check(alloc, program) {
-        Ok(checked) => match command {
-            Command::Check => printed(alloc, program),
-            Command::Run { events } => run(alloc, &checked, events),
-        },
-        Err(CheckFault::IllTyped { rule, line, column }) => {
-            Outcome::without_run(alloc, Status::IllTyped { rule, line, column })
+    /// Writes the text that is due. It takes no memory.
+    pub fn write<K: Sink>(&self, out: &mut K) -> Wrote
+        ensures { Writes (K.held out.old) (K.held out.new) (K.faults out.old) (K.faults out.new) (due_text self.now.status self.now.text.items) result }
+    {
+        match self.status {
+            Status::Accepted | Status::Clean | Status::Raced | Status::Spent { .. } => {
+                write_text(out, self.text.as_slice())
+            }
+            Status::Syntax { line, column } => write_syntax(out, line, column),
+            Status::IllTyped { rule, line, column } => write_type(out, rule, line, column),
+            Status::NotLegal { entry } => write_number(out, b"not legal ", entry),
+            Status::NotRun { byte } => write_number(out, b"not a run ", byte),
+            Status::ReadFault => write_text(out, b"read fault\n"),
+            Status::WriteFault => Wrote::All,
+            Status::NoMemory => write_text(out, b"no memory\n"),
+            Status::Usage => write_text(out, b"usage: forder run, serial, replay, check or load\n"),
+            Status::TooLong => write_text(out, b"too long\n"),
         }
-        Err(CheckFault::NoMemory) => Outcome::without_run(alloc, Status::NoMemory),
     }
-}
-
-/// Prints a well-typed program.
-fn printed(alloc: Global, program: &Program) -> Outcome
-    requires { IsChecked program.now }
-    ensures { OutcomeOf command.Check program.now result.status (events_of result.history) result.races.items result.printed.items }
-{
-    match print(alloc, program) {
-        Ok(printed) => Outcome {
-            status: Status::Accepted,
-            history: History::make(alloc),
-            races: Races::make(alloc),
-            printed,
-        },
-        Err(NoMemory) => Outcome::without_run(alloc, Status::NoMemory),
-    }
-}
-
-/// Runs a well-typed program up to a number of entries.
-fn run(alloc: Global, checked: &Checked, events: u32) -> Outcome
-    requires { IsBound events }
-    ensures { OutcomeOf (command.Run events) checked.now.program.now result.status (events_of result.history) result.races.items result.printed.items }
-{
-    match run_program(alloc, checked, events) {
-        Ok(outcome) => outcome,
-        Err(NoMemory) => Outcome::without_run(alloc, Status::NoMemory),
-    }
-}
-
-/// The same, where there is memory.
-fn run_program(alloc: Global, checked: &Checked, events: u32) -> Result<Outcome, NoMemory>
-    requires { IsBound events }
-    ensures { IfOk result (λ o. IfSome (program_tree checked.now.program.now.items) (λ P. EndsIn P events o.status (events_of o.history) o.races.items)) }
-{
-    let code = Code::of(alloc, checked)?;
-    let limits = Limits {
-        events,
-        local_steps: MOST_STEPS,
-        futures: MOST_FUTURES,
-    };
-    let ran = serial(alloc, &code, limits)?;
-    let status = ending(ran.finish, &ran.races);
-    Ok(Outcome {
-        status,
-        history: ran.history,
-        races: ran.races,
-        printed: Text::make(alloc),
-    })
 }
 
 /// How a run ended that has these races.
-fn ending(finish: Finish, races: &Races) -> Status
+pub fn ending(finish: Finish, races: &Races) -> Status
     ensures { result ≡ ending_of finish races.now.items }
 {
     match finish {
@@ -147,4 +87,64 @@ fn ending(finish: Finish, races: &Races) -> Status
             finish,
         },
     }
+}
+
+/// The line for a legal record of so many entries and races.
+pub fn legal_line(alloc: Global, entries: usize, races: usize) -> Result<Vec<u8>, NoMemory>
+    ensures { IfOk result (λ t. t.items ≡ legal_text entries races) }
+{
+    let mut text = Gathered::make(alloc);
+    let pieces = [
+        Piece::Bytes(b"legal entries "),
+        Piece::Count(entries),
+        Piece::Bytes(b" races "),
+        Piece::Count(races),
+        Piece::Bytes(b"\n"),
+    ];
+    match write_pieces(&mut text, &pieces) {
+        Wrote::All => Ok(text.bytes),
+        Wrote::Failed => Err(NoMemory),
+    }
+}
+
+/// Writes where a text is no program.
+fn write_syntax<K: Sink>(out: &mut K, line: u32, column: u32) -> Wrote
+    ensures { Writes (K.held out.old) (K.held out.new) (K.faults out.old) (K.faults out.new) (syntax_text line column) result }
+{
+    let pieces = [
+        Piece::Bytes(b"syntax "),
+        Piece::Number(line),
+        Piece::Bytes(b":"),
+        Piece::Number(column),
+        Piece::Bytes(b"\n"),
+    ];
+    write_pieces(out, &pieces)
+}
+
+/// Writes which type rule a program breaks, and where.
+fn write_type<K: Sink>(out: &mut K, rule: u32, line: u32, column: u32) -> Wrote
+    ensures { Writes (K.held out.old) (K.held out.new) (K.faults out.old) (K.faults out.new) (type_text rule line column) result }
+{
+    let pieces = [
+        Piece::Bytes(b"type "),
+        Piece::Number(rule),
+        Piece::Bytes(b" "),
+        Piece::Number(line),
+        Piece::Bytes(b":"),
+        Piece::Number(column),
+        Piece::Bytes(b"\n"),
+    ];
+    write_pieces(out, &pieces)
+}
+
+/// Writes a line that ends with a number.
+fn write_number<K: Sink>(out: &mut K, words: &[u8], number: u32) -> Wrote
+    ensures { Writes (K.held out.old) (K.held out.new) (K.faults out.old) (K.faults out.new) (words.now ++ (decimal number ++ codes "\n")) result }
+{
+    let pieces = [
+        Piece::Bytes(words),
+        Piece::Number(number),
+        Piece::Bytes(b"\n"),
+    ];
+    write_pieces(out, &pieces)
 }

@@ -6,16 +6,21 @@ use fut_base::record::{Finish, History};
 pub enum Status {
     /// The text is a program that breaks no type rule.
     Accepted,
-    /// The run is whole and has no race.
+    /// The run or the record is whole and has no race.
     Clean,
-    /// The run is whole and has a race.
+    /// The run or the record is whole and has a race.
     Raced,
     /// The text is no program. Its first token that can't come stands here.
     Syntax { line: u32, column: u32 },
     /// The text is a program that breaks a type rule. Its first fault breaks the rule of this number, and stands here.
     IllTyped { rule: u32, line: u32, column: u32 },
-    /// The run is not whole, and ended so.
+    /// The run or the record is not whole, and ended so.
     Spent { finish: Finish },
+    /// The entries of the record before this one are legal and it is not; or all are legal, this is their number, and the
+    /// races or the finish are not those of the history.
+    NotLegal { entry: u32 },
+    /// The bytes are no run text. Their longest beginning with which a run text begins has so many bytes.
+    NotRun { byte: u32 },
     /// A take of the source failed.
     ReadFault,
     /// A put of the sink failed.
@@ -23,7 +28,7 @@ pub enum Status {
     NoMemory,
     /// The words have no form that forder knows.
     Usage,
-    /// The text is longer than 1,048,576 bytes.
+    /// The source gave more than 1,048,576 bytes, or, where a record is due, more than 67,108,864.
     TooLong,
 }
 
@@ -41,6 +46,7 @@ impl Status {
             Status::Syntax { .. } => 2,
             Status::IllTyped { .. } => 3,
             Status::Spent { .. } => 4,
+            Status::NotLegal { .. } | Status::NotRun { .. } => 5,
             Status::ReadFault => 6,
             Status::WriteFault => 7,
             Status::NoMemory => 8,
@@ -50,8 +56,8 @@ impl Status {
     }
 }
 
-/// What a call answers: how it ended, and the history of the run that it made. Where it made no run, the history is
-/// empty.
+/// What a call answers: how it ended, and the history of the run that it made or of the legal record that it read. Where
+/// there is neither, the history is empty.
 #[derive(Drop)]
 pub struct Ended {
     pub status: Status,

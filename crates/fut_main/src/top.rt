@@ -95,15 +95,15 @@ fn answer<S: Source, K: Sink>(
     // With other words nothing is read.
     ensures usage { result.status ≡ status.Usage → source.new ≡ source.old }
 {
-    let verdict = judge(alloc, words, may_run, source);
-    match verdict.write(alloc, out) {
+    let outcome = judge(alloc, words, may_run, source);
+    match outcome.write(out) {
         Wrote::All => Ended {
-            status: verdict.status,
-            history: verdict.history,
+            status: outcome.status,
+            history: outcome.history,
         },
         Wrote::Failed => Ended {
             status: Status::WriteFault,
-            history: verdict.history,
+            history: outcome.history,
         },
     }
 }

@@ -1,14 +1,12 @@
 //! The words of the command line.
-ghost use Rattle.std.specs.Prelude.{◌≡◌, ◌↔◌, ℕ, List, [], ◌∷◌, ◌++◌, map, IsTrue, OnOk, OnErr, MatchOption, codes, decimal, string_bytes};
-ghost use Rattle.fut_main.specs.Asking.{Commands, IsHead, IsBound, AreBounds};
+ghost use Rattle.std.specs.Prelude.{◌≡◌, ◌≢◌, ℕ, Bool, [], ◌∷◌, ◌++◌, map, string_bytes, MatchOption, OnOk, OnErr};
+ghost use Rattle.fut_main.specs.Asking.{AreOptions, Commands};
+ghost use Rattle.fut_main.specs.declared.words.Command.TheVariants as command;
 
+use crate::options::{behind, options};
 use fut_base::list::NoMemory;
-use itoa::Buffer;
 use std::alloc::Global;
 use std::marker::Model;
-
-/// The greatest number of entries of a run whose words name none.
-const MOST_EVENTS: u32 = 100_000;
 
 /// The words after the program's name. Contracts see the list of their bytes.
 #[derive(Drop)]
@@ -46,96 +44,63 @@ impl Words {
         Ok(())
     }
 
-    /// Whether the words are `check`.
-    fn is_check(&self) -> bool
-        ensures { IsTrue result ↔ (self.now ≡ codes "check" ∷ []) }
-    {
-        let [command] = self.all.as_slice() else {
-            return false;
-        };
-        is_text(command, "check")
+    /// The words in order.
+    pub fn as_slice(&self) -> &[String] {
+        self.all.as_slice()
     }
 
-    /// The words behind those of a run.
-    fn behind_run(&self, may_run: bool) -> Option<&[String]>
-        ensures { MatchOption result
-            ((head rest : List (List ℕ)) → IsHead may_run head → self.now ≡ head ++ rest → ⊥)
-            (λ rest. (head : List (List ℕ)) × IsHead may_run head × (self.now ≡ head ++ map string_bytes rest.now)) }
-    {
-        match self.all.as_slice() {
-            [command, rest @ ..] if is_text(command, "serial") => Some(rest),
-            [command, option, number, rest @ ..] if may_run && is_run(command, option, number) =>
-                Some(rest),
-            _ => None,
-        }
-    }
-
-    /// What the words ask for, if they have a form that is known: `check`, or a run, `serial` or `run --workers 1`, which
-    /// `--events` and a number from 1 to 1,000,000 may follow. Runs on workers are asked for where they are made.
+    /// What the words ask for, if they have a form that is known: `check`, `replay`, or a run, `serial` or `run`, with its
+    /// options behind it. Runs on workers are asked for where they are made.
     pub fn command(&self, may_run: bool) -> Option<Command>
         ensures { Commands may_run self.now result }
     {
-        if self.is_check() {
-            return Some(Command::Check);
-        }
-        let rest = self.behind_run(may_run)?;
-        let events = bound_of(rest)?;
-        Some(Command::Run { events })
+        command_of(self.all.as_slice(), may_run)
     }
 }
 
 /// What words ask for.
 #[derive(Clone, Copy, PartialEq, Eq)]
 pub enum Command {
-    /// A run of at most so many entries.
-    Run { events: u32 },
+    /// A run of at most so many entries, of which the brief text is due or the whole record.
+    Run { events: u32, brief: bool },
+    /// A record is checked against its program.
+    Replay,
     Check,
 }
 
-/// The greatest number of entries that the words behind those of a run ask for.
-fn bound_of(rest: &[String]) -> Option<u32>
+/// What these words ask for.
+fn command_of(words: &[String], may_run: bool) -> Option<Command>
+    ensures { Commands may_run (map string_bytes words.now) result }
+{
+    if let Some(rest) = behind(words, "check") {
+        return alone(rest, Command::Check);
+    }
+    if let Some(rest) = behind(words, "replay") {
+        return alone(rest, Command::Replay);
+    }
+    if let Some(rest) = behind(words, "serial") {
+        return run_of(rest, false);
+    }
+    let rest = behind(words, "run")?;
+    if may_run { run_of(rest, true) } else { None }
+}
+
+/// The command, where no word follows.
+fn alone(rest: &[String], command: Command) -> Option<Command>
+    ensures { MatchOption result (map string_bytes rest.now ≢ []) (λ c. (c ≡ command) × (map string_bytes rest.now ≡ [])) }
+{
+    if rest.is_empty() { Some(command) } else { None }
+}
+
+/// The run with these options, among which `--workers` may be.
+fn run_of(rest: &[String], workers: bool) -> Option<Command>
     ensures { MatchOption result
-        ((events : ℕ) → AreBounds (map string_bytes rest.now) events → ⊥)
-        (λ events. AreBounds (map string_bytes rest.now) events) }
+        ((events : ℕ) (brief : Bool) → AreOptions workers (map string_bytes rest.now) events brief → ⊥)
+        (λ c. (events : ℕ) × (brief : Bool) × (c ≡ command.Run events brief) × AreOptions workers (map string_bytes rest.now) events brief) }
 {
-    match rest {
-        [] => Some(MOST_EVENTS),
-        [option, number] if is_text(option, "--events") => bound(number),
-        _ => None,
-    }
-}
-
-/// A bound, in decimal digits without leading zeros.
-fn bound(word: &String) -> Option<u32>
-    ensures { MatchOption result
-        ((events : ℕ) → IsBound events → string_bytes word.now ≡ decimal events → ⊥)
-        (λ events. IsBound events × (string_bytes word.now ≡ decimal events)) }
-{
-    let Ok(events) = word.as_str().parse::<u32>() else {
-        return None;
-    };
-    if events == 0 || events > 1_000_000 {
-        return None;
-    }
-    let mut digits = Buffer::new();
-    if digits.format(events) == word.as_str() {
-        Some(events)
-    } else {
-        None
-    }
-}
-
-fn is_run(command: &String, option: &String, number: &String) -> bool
-    ensures { IsTrue result ↔ ((string_bytes command.now ≡ codes "run") × (string_bytes option.now ≡ codes "--workers") × (string_bytes number.now ≡ codes "1")) }
-{
-    let is_command = is_text(command, "run");
-    let is_option = is_text(option, "--workers");
-    let is_number = is_text(number, "1");
-    is_command && is_option && is_number
-}
-
-fn is_text(word: &String, text: &str) -> bool
-    ensures { IsTrue result ↔ (string_bytes word.now ≡ text.now) }
-{
-    word.as_str() == text
+    let seen = options(rest, workers)?;
+    Some(Command::Run {
+        events: seen.bound,
+        brief: seen.brief,
+    })
 }

@@ -4,5 +4,5 @@ use Rattle.fut_main.proofs.top.answer.Goals as goal
 
 pub returns-in-All-clause-complete : goal.returns-in-All-clause-complete
 returns-in-All-clause-complete g c =
-    let v = c.judge-verdict.result in
-    complete _ _ v.status (events_of v.history) _ c.judge-verdict.ensures.verdict
+    let v = c.judge-outcome.result in
+    complete _ _ v.status (events_of v.history) _ c.judge-outcome.ensures.verdict

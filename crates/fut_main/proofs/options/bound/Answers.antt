@@ -1,7 +1,7 @@
 use Rattle.std.proofs.Common.{◌≡◌, ◌∙◌, sym, arith, inl, inr, true, false, Ok, Err, bytes_eq, decimal}
 use Rattle.std.proofs.lemmas.Slice.Eq.{bytes_eq-Decides}
-use Rattle.fut_main.proofs.Bounds.{read_bound}
-use Rattle.fut_main.proofs.words.bound.Goals as goal
+use Rattle.fut_main.proofs.Choosing.{read_bound}
+use Rattle.fut_main.proofs.options.bound.Goals as goal
 
 pub returns-in_default : goal.returns-in_default
 returns-in_default c = λ events b e.
