@@ -1,5 +1,6 @@
 //! Calls by words over a source and a sink in memory.
 mod records;
+mod replays;
 mod runs;
 mod words;
 
