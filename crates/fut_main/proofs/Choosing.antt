@@ -1,5 +1,5 @@
 -- Options read one after the other.
-use Rattle.std.proofs.Common.{◌≡◌, ℕ, ◌+◌, ◌≤◌, ◌<◌, ◌^◌, Bool, true, false, List, [], ◌∷◌, ◌++◌, length, inl, inr, refl, sym, ap, ◌∙◌, subst, arith, codes, decimal, map, Result, Ok, append_assoc}
+use Rattle.std.proofs.Common.{◌≡◌, ℕ, ◌+◌, ◌≤◌, ◌<◌, Bool, true, false, List, [], ◌∷◌, ◌++◌, length, refl, sym, ap, ◌∙◌, subst, arith, codes, decimal, map, Result, Ok, append_assoc}
 use Rattle.std.specs.Prelude.{nat_lt}
 use Rattle.std.specs.Str.Parse.{ParsesUnsigned}
 use Rattle.std.proofs.lemmas.Fmt.{parse-decimal, decimal_injective}
@@ -7,7 +7,7 @@ use Rattle.std.proofs.lemmas.List.{append-nil, length-map}
 use Rattle.fut_main.specs.declared.options.Choice.{Choice}
 use Rattle.fut_main.specs.declared.options.Choice.TheVariants as choice
 use Rattle.fut_main.specs.declared.options.Seen as declared
-use Rattle.fut_main.specs.Asking.{IsBound, MayStand, EachMayStand, spelling, spellings, times, count, IsOnce, is_events, is_brief, is_workers, is_brief_in, bound_of, AreOptions}
+use Rattle.fut_main.specs.Asking.{IsBound, MayStand, EachMayStand, spelling, spellings, times, count, IsOnce, is_events, is_brief, is_workers, bound_of, AreOptions}
 use Rattle.fut_main.specs.Seen.{IsSeen, IsAgain}
 
 -- the number that a written bound is read as

@@ -1,5 +1,5 @@
 -- What is answered to what nothing hinders.
-use Rattle.std.proofs.Common.{◌≡◌, ℕ, ◌+◌, ◌≤◌, ◌<◌, Bool, true, false, List, [], ◌∷◌, ◌++◌, length, take, drop, inl, inr, refl, sym, ap, ◌∙◌, subst, arith, codes}
+use Rattle.std.proofs.Common.{◌≡◌, ℕ, ◌≤◌, Bool, true, false, List, [], ◌∷◌, ◌++◌, length, take, drop, inl, inr, refl, sym, ap, ◌∙◌, subst, arith, codes}
 use Rattle.std.specs.Prelude.{Option, Some, None, slice_get, get_or}
 use Rattle.std.specs.Io.KnownBytes.{Consumes, IsAtEnd}
 use Rattle.std.proofs.lemmas.List.{append-nil, length-append, take-append-drop}
@@ -14,7 +14,7 @@ use Rattle.fut_syntax.specs.Texts.{IsFaultPlace}
 use Rattle.fut_syntax.proofs.Programs.{one_program, no_faulty_program}
 use Rattle.fut_check.specs.Faults.{IsAmong}
 use Rattle.fut_check.specs.Items.{faults_of}
-use Rattle.task_machine.specs.Machine.{Machine, opening, IsStep, Leads}
+use Rattle.task_machine.specs.Machine.{opening, IsStep, Leads}
 use Rattle.task_machine.proofs.Leading.{leads_to_one, split}
 use Rattle.run_record.specs.Records.{IsFault}
 use Rattle.run_record.proofs.Onces.{one_value}
@@ -24,7 +24,7 @@ use Rattle.fut_main.specs.declared.status.Status.TheVariants as status
 use Rattle.fut_main.specs.declared.words.Command.{Command}
 use Rattle.fut_main.specs.declared.words.Command.TheVariants as command
 use Rattle.fut_main.specs.Asking.{Asked, Asks, AreWordsOf, most_bytes}
-use Rattle.fut_main.specs.Verdict.{Told, IsRead, IsWellTypedText, IsIllTypedText, IsRecordOf, IsRefusedRecord, GaveTooMuch, IsGiven, IsOfText, IsOfHistory, IsVerdict, IsFit, IsUnhindered, AsksHistory, IsFree}
+use Rattle.fut_main.specs.Verdict.{Told, IsRead, IsWellTypedText, IsIllTypedText, IsRefusedRecord, GaveTooMuch, IsGiven, IsOfHistory, IsVerdict, IsFit, IsUnhindered, AsksHistory, IsFree}
 use Rattle.fut_main.proofs.Wording.{same_head, check_replay, serial_replay, run_replay}
 
 -- ---- what was read

@@ -1,5 +1,5 @@
 -- From what came of the bytes to a verdict.
-use Rattle.std.proofs.Common.{◌≡◌, ℕ, ◌+◌, ◌<◌, ◌^◌, Bool, List, [], ◌∷◌, length, inl, inr, refl, sym, ap, ◌∙◌, subst, ◌⊎◌}
+use Rattle.std.proofs.Common.{◌≡◌, ℕ, Bool, List, [], ◌∷◌, length, inl, inr, refl, sym, ap, ◌∙◌, subst}
 use Rattle.std.specs.Prelude.{Some, None, true, Ok, ℤ}
 use Rattle.fut_base.specs.declared.event.Event.{Event}
 use Rattle.fut_base.specs.declared.record.Race.{Race}
@@ -11,9 +11,7 @@ use Rattle.fut_syntax.specs.declared.tree.Program as declared
 use Rattle.fut_syntax.specs.declared.token.Place.{Place}
 use Rattle.fut_syntax.specs.Views.{program_tree}
 use Rattle.fut_syntax.specs.Texts.{Parses, IsProgram}
-use Rattle.fut_check.specs.Checks.{HasPlaces, IsChecked, IsFaultOf}
-use Rattle.fut_check.specs.Items.{IsWellTyped}
-use Rattle.task_machine.specs.Texts.{cell_arrays}
+use Rattle.fut_check.specs.Checks.{HasPlaces, IsFaultOf}
 use Rattle.task_code.specs.Flat.{Compiled, IsCodeOf}
 use Rattle.run_record.specs.Records.{IsFault}
 use Rattle.run_replay.specs.Serials.{IsSerialRun}
@@ -27,7 +25,7 @@ use Rattle.fut_main.specs.declared.words.Command.TheVariants as command
 use Rattle.fut_main.specs.Asking.{Asked, Asks, AreWordsOf}
 use Rattle.fut_main.specs.Due.{due_text, run_due, legal_text}
 use Rattle.fut_main.specs.Outcomes.{ending_of, status_of, IsOfTree, IsRefused, RanAs, IsOutcome}
-use Rattle.fut_main.specs.Verdict.{IsRead, IsWellTypedText, IsIllTypedText, IsPrinted, IsRunOf, Says, limits_of, IsOfRun, IsOfHistory, IsRecordOf, IsOfRecord, IsGiven, IsRefusedRecord, IsVerdict}
+use Rattle.fut_main.specs.Verdict.{IsRead, IsWellTypedText, IsIllTypedText, Says, limits_of, IsOfHistory, IsRecordOf, IsGiven, IsVerdict}
 
 -- ---- a program
 

@@ -1,5 +1,5 @@
 -- Words that begin with the name of a command.
-use Rattle.std.proofs.Common.{◌≡◌, ℕ, ◌≤◌, Bool, true, false, List, [], ◌∷◌, inl, inr, sym, ap, ◌∙◌, subst, arith, codes, slice_index}
+use Rattle.std.proofs.Common.{◌≡◌, ℕ, Bool, true, false, List, [], ◌∷◌, inl, inr, sym, ap, ◌∙◌, subst, arith, codes, slice_index}
 use Rattle.std.specs.Prelude.{Option, Some, None, MatchOption}
 use Rattle.fut_main.specs.declared.options.Choice.{Choice}
 use Rattle.fut_main.specs.declared.options.Choice.TheVariants as choice

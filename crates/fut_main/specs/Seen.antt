@@ -1,5 +1,5 @@
 -- What options say together that were read one by one.
-use Rattle.std.specs.Prelude.{◌≡◌, ℕ, List}
+use Rattle.std.specs.Prelude.{◌≡◌, List}
 use Rattle.fut_main.specs.declared.options.Choice.{Choice}
 use Rattle.fut_main.specs.declared.options.Choice.TheVariants as choice
 use Rattle.fut_main.specs.declared.options.Seen as declared

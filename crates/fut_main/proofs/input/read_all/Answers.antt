@@ -1,6 +1,5 @@
 use Rattle.std.proofs.lemmas.List.{length-take}
-use Rattle.std.proofs.Common.{ℕ, arith, rules, ◌∙◌, refl, ap, length, length-append}
-use Rattle.std.proofs.lemmas.Grind.{common_steps}
+use Rattle.std.proofs.Common.{ℕ, arith, ◌∙◌, refl, ap, length, length-append}
 use Rattle.fut_main.proofs.Consuming.{consumes_none, consumes_both, consumes_keeps}
 use Rattle.fut_main.proofs.input.read_all.Goals as goal
 

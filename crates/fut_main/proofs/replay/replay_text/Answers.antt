@@ -1,4 +1,3 @@
-use Rattle.run_record.specs.Steps.{Reading}
 use Rattle.fut_main.proofs.Endings.{not_run}
 use Rattle.fut_main.proofs.replay.replay_text.Goals as goal
 
