@@ -136,9 +136,8 @@ def once(words, source, sink):
 def run(text):
     """The events of the run of a text, the least of three times, the greatest memory in megabytes, and the least of three
     times of the replay of its record, where the program has that command."""
-    with tempfile.TemporaryFile() as program, tempfile.TemporaryFile() as record, tempfile.TemporaryFile() as answer:
+    with tempfile.TemporaryFile(buffering=0) as program, tempfile.TemporaryFile(buffering=0) as record, tempfile.TemporaryFile(buffering=0) as answer:
         program.write(text.encode())
-        program.flush()
         runs = [once(["serial", "--events", "1000000"], program, record) for _ in range(3)]
         if runs[0][2] not in (0, 1):
             sys.exit("a run ended with status %d" % runs[0][2])
