@@ -24,6 +24,14 @@ fn texts_that_are_no_records(rt: HostRuntime) -> Result<(), Fail> {
         ("task main() int { return 0; }", "not a run 0\n"),
         ("forder 2\n", "not a run 7\n"),
         (
+            "forder 1\nprogram 29\ntask main() int { return 0; }\nentries 1\n0 t0 s0 end 0\nraces 0\nfinish whole\n",
+            "not a run 95\n",
+        ),
+        (
+            "forder 1\nprogram 29\ntask main() int { return 0; }\nentries 1\n0 t0 s0 end 0\nraces 0\nfinish whole\nend\n\n",
+            "not a run 99\n",
+        ),
+        (
             "forder 1\nprogram 0\n\nentries 0\nraces 0\nfinish whole\nend\n\n",
             "not a run 55\n",
         ),

@@ -99,12 +99,24 @@ fn records_of_serial_runs_are_legal(rt: HostRuntime) -> Result<(), Fail> {
 const GET_RECORD: &str =
     "forder 1\nprogram 147\ncells a[1]; task f() int { a[0] = 1; return 7; } task main() int { var h: fut int = create f(); var x: int = get h; a[0] = x; x = a[0]; return 0; }\nentries 7\n0 t0 s0 create 0 t1 s1 s2\n1 t1 s1 write 0 1\n2 t1 s1 end 7\n3 t0 s2 get f1 7 s3\n4 t0 s3 write 0 7\n5 t0 s3 read 0 7\n6 t0 s3 end 0\nraces 0\nfinish whole\nend\n";
 
+/// The same without the read.
+const SHORT_RECORD: &str =
+    "forder 1\nprogram 137\ncells a[1]; task f() int { a[0] = 1; return 7; } task main() int { var h: fut int = create f(); var x: int = get h; a[0] = x; return 0; }\nentries 6\n0 t0 s0 create 0 t1 s1 s2\n1 t1 s1 write 0 1\n2 t1 s1 end 7\n3 t0 s2 get f1 7 s3\n4 t0 s3 write 0 7\n5 t0 s3 end 0\nraces 0\nfinish whole\nend\n";
+
 #[test]
 fn records_that_are_not_legal(rt: HostRuntime) -> Result<(), Fail> {
     let alloc = rt.alloc();
     let answer = ask(alloc, &REPLAY, GET_RECORD.as_bytes())?;
     assert_eq!(rt; answer.status, Status::Clean);
+    let answer = ask(alloc, &REPLAY, SHORT_RECORD.as_bytes())?;
+    assert_eq!(rt; answer.status, Status::Clean);
+    assert_eq!(rt;
+        answer.text.as_slice(),
+        b"legal entries 6 races 0\n".as_slice()
+    );
     let cases = [
+        (SHORT_RECORD, "get f1 7 s3", "get f1 8 s3", 3),
+        (SHORT_RECORD, "finish whole", "finish events 6", 6),
         (RACE_RECORD, "1 t1 s1 write 0 1", "1 t1 s1 write 0 2", 1),
         (RACE_RECORD, "2 t1 s1 end 0", "2 t1 s1 end 1", 2),
         (RACE_RECORD, "4 t0 s2 sync s3", "4 t0 s2 sync s4", 4),
