@@ -1,4 +1,5 @@
 pub mod Firsts
 pub mod Paths
+pub mod Reports
 pub mod Rising
 pub mod Writing

@@ -2,14 +2,14 @@
 use Rattle.std.proofs.Common.{◌≡◌, ℕ, ◌+◌, ◌≤◌, List, [], ◌∷◌, ◌++◌, length, take, refl, sym, ap, ◌∙◌, append_assoc, arith, length-append}
 use Rattle.std.proofs.lemmas.List.{append-nil, take-append-le}
 use Rattle.fut_syntax.specs.Trees.{Expr, Item, Stmt, If', While', Block, Then, Tail, ElseOf}
-use Rattle.fut_check.specs.declared.names.Variable.{Variable}
-use Rattle.fut_check.specs.Faults.{Searched, Walked, least}
-use Rattle.fut_check.specs.Names.{Scope}
-use Rattle.fut_check.specs.Exprs.{needed_faults, for_int}
+use Rattle.fut_rules.specs.declared.names.Variable.{Variable}
+use Rattle.fut_rules.specs.Faults.{Searched, Walked, least}
+use Rattle.fut_rules.specs.Names.{Scope}
+use Rattle.fut_rules.specs.Exprs.{needed_faults, for_int}
 use Rattle.fut_check.specs.Passing.{Passed}
 use Rattle.fut_check.specs.Stmts.{stmt_faults, block_faults, tail_faults, scope_after, with_declared, shown, declared_in, declared_in_block, declared_in_tail}
-use Rattle.fut_check.specs.Widths.{expr_width, stmt_width, block_width, tail_width}
-use Rattle.fut_check.proofs.Least.{least_append, walked_both, walked_past, past_walked, walked_as}
+use Rattle.fut_rules.specs.Widths.{expr_width, stmt_width, block_width, tail_width}
+use Rattle.fut_rules.proofs.Least.{least_append, walked_both, walked_past, past_walked, walked_as}
 
 declared_twice : (s : Scope) (xs ys : List Variable)
     → with_declared (with_declared s xs) ys ≡ record { returns = s.returns; visible = s.visible ++ []; declared = s.declared ++ (xs ++ ys) }

@@ -1,7 +1,7 @@
 -- Counts of items with one more.
 use Rattle.std.proofs.Common.{◌≡◌, ◌+◌, List, [], ◌∷◌, ◌++◌, arith}
 use Rattle.fut_syntax.specs.Trees.{Item, CellsOf, TaskOf}
-use Rattle.fut_check.specs.Names.{tasks, cells}
+use Rattle.fut_rules.specs.Names.{tasks, cells}
 
 pub tasks_more : (is : List Item) (i : Item) → tasks (is ++ i ∷ []) ≡ tasks is + tasks (i ∷ [])
 tasks_more [] i = omega arith

@@ -1,14 +1,9 @@
-pub mod Args
 pub mod Bodies
 pub mod Clean
 pub mod Counts
-pub mod Drops
 pub mod First
-pub mod Least
 pub mod Once
 pub mod Reading
-pub mod Slots
-pub mod Some
 pub mod Statements
 pub mod Tokens
 pub mod Walks

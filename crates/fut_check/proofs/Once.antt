@@ -1,13 +1,13 @@
 -- Faults have one first fault.
 use Rattle.std.proofs.Common.{◌≡◌, ℕ, ◌+◌, ◌*◌, ◌≤◌, Bool, List, Some, refl, sym, ap, ◌∙◌, subst, arith}
 use Rattle.std.specs.Prelude.{nat_eq, if◌then◌else◌, slice_get, IsSomeAnd}
-use Rattle.fut_syntax.specs.declared.token.Place.{Place}
+use Rattle.fut_tokens.specs.declared.token.Place.{Place}
 use Rattle.fut_syntax.specs.declared.tree.Program as declared
 use Rattle.fut_syntax.specs.Trees.{Program}
-use Rattle.fut_check.specs.declared.fault.Rule.{Rule}
-use Rattle.fut_check.specs.declared.fault.Rule.TheVariants as rule
-use Rattle.fut_check.specs.declared.fault.Fault.{Fault}
-use Rattle.fut_check.specs.Faults.{rule_number, IsAmong, IsFirst}
+use Rattle.fut_rules.specs.declared.fault.Rule.{Rule}
+use Rattle.fut_rules.specs.declared.fault.Rule.TheVariants as rule
+use Rattle.fut_rules.specs.declared.fault.Fault.{Fault}
+use Rattle.fut_rules.specs.Faults.{rule_number, IsAmong, IsFirst}
 use Rattle.fut_check.specs.Items.{faults_of, IsWellTyped}
 use Rattle.fut_check.specs.Checks.{IsChecked, IsFaultOf}
 use Rattle.fut_check.proofs.First.{rank, small, not_before}

@@ -1,20 +1,20 @@
 -- The faults of statements, by those of their parts.
 use Rattle.std.proofs.Common.{◌≡◌, ℕ, ◌+◌, List, ◌++◌, Option, Some, Bool, not, ◌&&◌, nat_lt, nat_eq, [], refl}
 use Rattle.fut_syntax.specs.Trees.{Expr, Init, Item, TaskOf, Param, Block, VarType, Declare, Define, Assign, Store}
-use Rattle.fut_check.specs.declared.fault.Fault.{Fault}
-use Rattle.fut_check.specs.declared.fault.Rule.{Rule}
-use Rattle.fut_check.specs.declared.kind.Kind.{Kind}
-use Rattle.fut_check.specs.declared.kind.Need.{Need}
-use Rattle.fut_check.specs.declared.names.Variable.{Variable}
-use Rattle.fut_check.specs.declared.fault.Rule.TheVariants as rule
-use Rattle.fut_check.specs.Faults.{broken, fault_if}
+use Rattle.fut_rules.specs.declared.fault.Fault.{Fault}
+use Rattle.fut_rules.specs.declared.fault.Rule.{Rule}
+use Rattle.fut_rules.specs.declared.kind.Kind.{Kind}
+use Rattle.fut_rules.specs.declared.kind.Need.{Need}
+use Rattle.fut_rules.specs.declared.names.Variable.{Variable}
+use Rattle.fut_rules.specs.declared.fault.Rule.TheVariants as rule
+use Rattle.fut_rules.specs.Faults.{broken, fault_if}
 use Rattle.fut_check.specs.Items.{is_over, param_faults, params_faults, head_faults, body_faults, item_faults, has_params, opening_scope}
-use Rattle.fut_check.specs.Kinds.{kind_of, init_need}
-use Rattle.fut_check.specs.Names.{Scope, tasks, declares, is_main, kind_named, element, element_rule, means_cells, declaration}
-use Rattle.fut_check.specs.Exprs.{needed_faults, for_int}
-use Rattle.fut_check.specs.Inits.{init_faults}
+use Rattle.fut_rules.specs.Kinds.{kind_of, init_need}
+use Rattle.fut_rules.specs.Names.{Scope, tasks, declares, is_main, kind_named, element, element_rule, means_cells, declaration}
+use Rattle.fut_rules.specs.Exprs.{needed_faults, for_int}
+use Rattle.fut_rules.specs.Inits.{init_faults}
 use Rattle.fut_check.specs.Stmts.{assigned_rule, value_need, declared_faults, type_faults, depth_faults, stmt_faults, block_faults, ends_with_return}
-use Rattle.fut_check.specs.Widths.{expr_width, type_width, block_width, params_width}
+use Rattle.fut_rules.specs.Widths.{expr_width, type_width, block_width, params_width}
 
 pub assign_faults : (g : List Item) (s : Scope) (n : ℕ) (w : List ℕ) (i : Init) (vs : List Variable) (m : ℕ) (need : Option Need)
     → vs ≡ s.visible → m ≡ n + 2 → need ≡ value_need (kind_named s.visible w)

@@ -4,11 +4,11 @@ use Rattle.std.proofs.lemmas.List.{take_more}
 use Rattle.fut_syntax.specs.declared.tree.Item as declared
 use Rattle.fut_syntax.specs.Trees.{Item, CellsOf, TaskOf}
 use Rattle.fut_syntax.specs.Views.{item_tree, items_tree}
-use Rattle.fut_check.specs.Faults.{Searched, Walked, least}
-use Rattle.fut_check.specs.Names.{tasks}
+use Rattle.fut_rules.specs.Faults.{Searched, Walked, least}
+use Rattle.fut_rules.specs.Names.{tasks}
 use Rattle.fut_check.specs.Items.{item_faults, items_faults}
-use Rattle.fut_check.specs.Widths.{item_width}
-use Rattle.fut_check.proofs.Least.{least_append}
+use Rattle.fut_rules.specs.Widths.{item_width}
+use Rattle.fut_rules.proofs.Least.{least_append}
 
 items_more : (xs : List declared.Item) (x : declared.Item) → items_tree (xs ++ x ∷ []) ≡ items_tree xs ++ item_tree x ∷ []
 items_more [] x = refl

@@ -1,16 +1,16 @@
 -- A whole program's faults.
 use Rattle.std.proofs.Common.{◌≡◌, ℕ, ◌+◌, ◌<◌, List, [], ◌∷◌, length, Option, Some, None, refl, sym, ap, ◌∙◌, subst, arith}
 use Rattle.std.specs.Prelude.{slice_get, IsSomeAnd}
-use Rattle.fut_syntax.specs.declared.token.Place.{Place}
+use Rattle.fut_tokens.specs.declared.token.Place.{Place}
 use Rattle.fut_syntax.specs.declared.tree.Item as code
 use Rattle.fut_syntax.specs.declared.tree.Program as declared
 use Rattle.fut_syntax.specs.Trees.{Program}
 use Rattle.fut_syntax.specs.Views.{item_tree, items_tree, program_tree}
-use Rattle.fut_check.specs.declared.fault.Fault.{Fault}
-use Rattle.fut_check.specs.Faults.{rule_number, least, Searched, Walked}
+use Rattle.fut_rules.specs.declared.fault.Fault.{Fault}
+use Rattle.fut_rules.specs.Faults.{rule_number, least, Searched, Walked}
 use Rattle.fut_check.specs.Items.{items_of, items_faults, faults_of, IsWellTyped}
 use Rattle.fut_check.specs.Checks.{HasPlaces, IsChecked, IsFaultOf}
-use Rattle.fut_check.specs.Widths.{items_width}
+use Rattle.fut_rules.specs.Widths.{items_width}
 use Rattle.fut_check.proofs.First.{none_found, first_found}
 use Rattle.fut_check.proofs.Tokens.{program_width}
 

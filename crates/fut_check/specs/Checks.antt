@@ -1,12 +1,12 @@
 -- What the check of a program answers.
 use Rattle.std.specs.Prelude.{◌≡◌, ℕ, ◌<◌, ◌^◌, length, slice_get, Option, Some, None, IsSomeAnd}
-use Rattle.fut_syntax.specs.declared.token.Place.{Place}
+use Rattle.fut_tokens.specs.declared.token.Place.{Place}
 use Rattle.fut_syntax.specs.declared.tree.Program as declared
 use Rattle.fut_syntax.specs.Trees as trees
 use Rattle.fut_syntax.specs.Tokens.{program_tokens}
 use Rattle.fut_syntax.specs.Views.{program_tree}
-use Rattle.fut_check.specs.declared.fault.Fault.{Fault}
-use Rattle.fut_check.specs.Faults.{rule_number}
+use Rattle.fut_rules.specs.declared.fault.Fault.{Fault}
+use Rattle.fut_rules.specs.Faults.{rule_number}
 use Rattle.fut_check.specs.Items.{faults_of, IsWellTyped, IsFirstFault}
 
 -- the tree has a place for each of its tokens

@@ -2,7 +2,7 @@
 use Rattle.std.specs.Prelude.{◌≡◌, ◌-◌, ◌^◌, min, List}
 use Rattle.fut_syntax.specs.Trees.{Item}
 use Rattle.fut_check.specs.declared.items.Counts.{Counts}
-use Rattle.fut_check.specs.Names.{tasks, cells}
+use Rattle.fut_rules.specs.Names.{tasks, cells}
 
 -- these are the counts of some items; cells are counted up to the greatest number
 pub record AreCounts (before : List Item) (counts : Counts) : Type 0 where

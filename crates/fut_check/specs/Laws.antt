@@ -1,11 +1,11 @@
 -- Laws of the check.
 use Rattle.std.specs.Prelude.{◌≡◌, ℕ, ◌+◌, ◌<◌, ◌^◌, List, length, Ok}
-use Rattle.fut_syntax.specs.declared.token.Place.{Place}
+use Rattle.fut_tokens.specs.declared.token.Place.{Place}
 use Rattle.fut_syntax.specs.declared.tree.Program as declared
 use Rattle.fut_syntax.specs.Texts.{Parses}
 use Rattle.fut_check.specs.Checks.{HasPlaces, IsChecked, IsFaultOf}
-use Rattle.fut_check.specs.declared.fault.Fault.{Fault}
-use Rattle.fut_check.specs.Faults.{IsFirst}
+use Rattle.fut_rules.specs.declared.fault.Fault.{Fault}
+use Rattle.fut_rules.specs.Faults.{IsFirst}
 
 -- what is read of a text can be checked
 abbrev pub ReadCanBeChecked : Type 0

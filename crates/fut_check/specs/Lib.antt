@@ -1,13 +1,7 @@
 pub mod Answers
 pub mod Checks
 pub mod Counts
-pub mod Exprs
-pub mod Faults
-pub mod Inits
 pub mod Items
-pub mod Kinds
 pub mod Laws
-pub mod Names
 pub mod Passing
 pub mod Stmts
-pub mod Widths

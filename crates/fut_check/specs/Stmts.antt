@@ -1,19 +1,19 @@
 -- Declarations and statements.
 use Rattle.std.specs.Prelude.{ℕ, ◌+◌, Bool, true, false, ◌||◌, nat_eq, nat_lt, List, [], ◌∷◌, ◌++◌, Option, Some, None}
 use Rattle.fut_syntax.specs.Trees.{Expr, VarType, Plain, Array, Item, Stmt, Declare, Define, Assign, Store, SpawnOf, SyncAll, If', While', Return', Block, Done, Then, Tail, NoElse, ElseOf}
-use Rattle.fut_check.specs.declared.kind.Kind.{Kind}
-use Rattle.fut_check.specs.declared.kind.Kind.TheVariants as kind
-use Rattle.fut_check.specs.declared.kind.Need.{Need}
-use Rattle.fut_check.specs.declared.fault.Fault.{Fault}
-use Rattle.fut_check.specs.declared.fault.Rule.{Rule}
-use Rattle.fut_check.specs.declared.fault.Rule.TheVariants as rule
-use Rattle.fut_check.specs.declared.names.Variable.{Variable}
-use Rattle.fut_check.specs.Faults.{broken, fault_if}
-use Rattle.fut_check.specs.Kinds.{kind_of, size, init_need, result_rule}
-use Rattle.fut_check.specs.Names.{Scope, declares, declaration, means_cells, variable, is_named, kind_named, slots, element, element_rule}
-use Rattle.fut_check.specs.Exprs.{expr_kind, expr_faults, needed_faults, for_int}
-use Rattle.fut_check.specs.Inits.{call_faults, init_faults}
-use Rattle.fut_check.specs.Widths.{expr_width, type_width, stmt_width, block_width}
+use Rattle.fut_rules.specs.declared.kind.Kind.{Kind}
+use Rattle.fut_rules.specs.declared.kind.Kind.TheVariants as kind
+use Rattle.fut_rules.specs.declared.kind.Need.{Need}
+use Rattle.fut_rules.specs.declared.fault.Fault.{Fault}
+use Rattle.fut_rules.specs.declared.fault.Rule.{Rule}
+use Rattle.fut_rules.specs.declared.fault.Rule.TheVariants as rule
+use Rattle.fut_rules.specs.declared.names.Variable.{Variable}
+use Rattle.fut_rules.specs.Faults.{broken, fault_if}
+use Rattle.fut_rules.specs.Kinds.{kind_of, size, init_need, result_rule}
+use Rattle.fut_rules.specs.Names.{Scope, declares, declaration, means_cells, variable, is_named, kind_named, slots, element, element_rule}
+use Rattle.fut_rules.specs.Exprs.{expr_kind, expr_faults, needed_faults, for_int}
+use Rattle.fut_rules.specs.Inits.{call_faults, init_faults}
+use Rattle.fut_rules.specs.Widths.{expr_width, type_width, stmt_width, block_width}
 
 -- ---- types and declared names
 

@@ -1,16 +1,16 @@
 //! Goes over types and declared names.
 ghost use Rattle.std.specs.Prelude.{◌≡◌, ◌+◌, ◌≤◌, ◌<◌};
 ghost use Rattle.fut_syntax.specs.Views.{type_tree, items_tree};
-ghost use Rattle.fut_check.specs.declared.names.Variable.{Variable};
-ghost use Rattle.fut_check.specs.Faults.{Walked};
-ghost use Rattle.fut_check.specs.Widths.{type_width};
+ghost use Rattle.fut_rules.specs.declared.names.Variable.{Variable};
+ghost use Rattle.fut_rules.specs.Faults.{Walked};
+ghost use Rattle.fut_rules.specs.Widths.{type_width};
 ghost use Rattle.fut_check.specs.Stmts as spec;
 
-use crate::fault::Rule;
-use crate::kind::Kind;
-use crate::names::{declares, is_named};
-use crate::scope::Scope;
-use crate::search::Search;
+use fut_rules::fault::Rule;
+use fut_rules::kind::Kind;
+use fut_rules::names::{declares, is_named};
+use fut_rules::scope::Scope;
+use fut_rules::search::Search;
 use fut_syntax::tree::{Item, VarType};
 
 /// The greatest number of `fut` in a type.
@@ -38,7 +38,7 @@ fn is_bad_length(length: u64) -> bool
 }
 
 /// Goes over the type of a variable or parameter.
-#[tactic(auto, using(crate::proofs::Least::least_append))]
+#[tactic(auto, using(fut_rules::proofs::Least::least_append))]
 pub fn walk_type(search: &mut Search, written: &VarType)
     requires { search.old.at + type_width (type_tree written.now) ≤ search.old.end }
     ensures { Walked search.old search.new (type_width (type_tree written.now)) (spec.type_faults search.old.at (type_tree written.now)) }
@@ -59,7 +59,7 @@ pub fn walk_type(search: &mut Search, written: &VarType)
 }
 
 /// Notes what is wrong with a parameter or variable that is declared at the next token.
-#[tactic(auto, using(crate::proofs::Least::least_append))]
+#[tactic(auto, using(fut_rules::proofs::Least::least_append))]
 pub fn note_declared(search: &mut Search, items: &[Item], scope: &Scope, word: &[u8], kind: Kind)
     requires { search.old.at < search.old.end }
     ensures { let x : Variable = record { name = word.now; kind = kind } in Walked search.old search.new 0 (spec.declared_faults (items_tree items.now) scope.now.declared search.old.at x) }

@@ -2,24 +2,24 @@
 ghost use Rattle.std.specs.Prelude.{◌≡◌, ◌+◌, ◌≤◌, ◌<◌, ◌++◌, ◌∷◌, [], IfOk, nat_lt, nat_eq, not, ◌&&◌, ◌||◌, ◌-◌, ◌^◌, min, ℕ, List};
 ghost use Rattle.fut_syntax.specs.Trees as trees;
 ghost use Rattle.fut_syntax.specs.Views.{stmt_tree, type_tree, block_tree, params_tree, param_tree, item_tree, items_tree};
-ghost use Rattle.fut_check.specs.Faults.{Walked, fault_if};
+ghost use Rattle.fut_rules.specs.Faults.{Walked, fault_if};
 ghost use Rattle.fut_check.specs.Passing.{Passed};
-ghost use Rattle.fut_check.specs.Names as names;
-ghost use Rattle.fut_check.specs.Widths.{type_width, param_width, each_param_width, params_width, block_width, item_width, items_width};
+ghost use Rattle.fut_rules.specs.Names as names;
+ghost use Rattle.fut_rules.specs.Widths.{type_width, param_width, each_param_width, params_width, block_width, item_width, items_width};
 ghost use Rattle.fut_check.specs.Items as spec;
 ghost use Rattle.fut_check.specs.Counts.{AreCounts};
-ghost use Rattle.fut_check.specs.declared.names.Variable.{Variable};
-ghost use Rattle.fut_check.specs.declared.fault.Rule.TheVariants.{ConstantLimit, DoubledName};
+ghost use Rattle.fut_rules.specs.declared.names.Variable.{Variable};
+ghost use Rattle.fut_rules.specs.declared.fault.Rule.TheVariants.{ConstantLimit, DoubledName};
 ghost use Rattle.fut_check.specs.Stmts.{ends_with_return, is_return, depth_faults, declared_faults};
 
 use crate::declarations::{note_declared, note_depth, walk_type};
-use crate::fault::Rule;
-use crate::kind::{Kind, kind_of};
-use crate::names::declares;
-use crate::scope::Scope;
-use crate::search::Search;
 use crate::stmts::walk_block;
 use fut_base::list::NoMemory;
+use fut_rules::fault::Rule;
+use fut_rules::kind::{Kind, kind_of};
+use fut_rules::names::declares;
+use fut_rules::scope::Scope;
+use fut_rules::search::Search;
 use fut_syntax::tree::{Item, Param, Stmt};
 use std::alloc::Global;
 
@@ -43,7 +43,7 @@ fn is_over(scope: &Scope, kind: Kind) -> bool
 }
 
 /// Notes what is wrong with a parameter's name at the next token.
-#[tactic(auto, using(crate::proofs::Least::least_append))]
+#[tactic(auto, using(fut_rules::proofs::Least::least_append))]
 fn note_param(search: &mut Search, items: &[Item], scope: &Scope, word: &[u8], kind: Kind)
     requires { search.old.at < search.old.end }
     ensures { let x : Variable = record { name = word.now; kind = kind } in Walked search.old search.new 0 (declared_faults (items_tree items.now) scope.now.declared search.old.at x ++ fault_if (spec.is_over scope.now.declared kind) search.old.at ConstantLimit) }
@@ -189,7 +189,7 @@ fn has_main(items: &[Item]) -> bool
 }
 
 /// Notes what is wrong with a task's name at the next token.
-#[tactic(auto, using(crate::proofs::Least::least_append))]
+#[tactic(auto, using(fut_rules::proofs::Least::least_append))]
 fn note_task(search: &mut Search, before: &[Item], tasks: usize, word: &[u8])
     requires { search.old.at < search.old.end }
     ensures { Walked search.old search.new 0 (fault_if (names.declares (items_tree before.now) word.now) search.old.at DoubledName ++ fault_if (nat_eq tasks 256) search.old.at ConstantLimit) }
@@ -265,7 +265,7 @@ fn walk_task(
 }
 
 /// Goes over an array of cells behind other items, which have so many cells, or more than all numbers go to.
-#[tactic(auto, using(crate::proofs::Least::least_append))]
+#[tactic(auto, using(fut_rules::proofs::Least::least_append))]
 fn walk_cells(
     search: &mut Search,
     items: &[Item],

@@ -1,4 +1,4 @@
-//! The twelve type rules of programs.
+//! The check of programs.
 //!
 //! `check` says that a program is well-typed, or where its first fault stands and which rule it breaks there. The layers
 //! above use `Checked`, which is well-typed by its type, and the definitions `IsWellTyped` and `IsFirstFault` of `specs/`.
@@ -6,16 +6,9 @@
 
 mod checked;
 mod declarations;
-mod exprs;
-pub mod fault;
-mod inits;
 mod items;
-mod kind;
 pub mod laws;
-mod names;
 mod program;
-mod scope;
-mod search;
 mod stmts;
 #[cfg(test)]
 mod tests;

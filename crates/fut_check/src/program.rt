@@ -4,10 +4,10 @@ ghost use Rattle.fut_check.specs.Answers.{Checks};
 
 use crate::checked::Checked;
 use crate::items::walk_items;
-use crate::search::Search;
 use fut_base::list::NoMemory;
-use fut_syntax::token::Place;
+use fut_rules::search::Search;
 use fut_syntax::tree::Program;
+use fut_tokens::token::Place;
 use std::alloc::Global;
 
 /// Why a program was not checked.

@@ -2,22 +2,22 @@
 ghost use Rattle.std.specs.Prelude.{◌≡◌, ◌+◌, ◌≤◌, ◌<◌, IfOk};
 ghost use Rattle.fut_syntax.specs.Trees as trees;
 ghost use Rattle.fut_syntax.specs.Views.{type_tree, expr_tree, init_tree, args_tree, stmt_tree, block_tree, tail_tree, items_tree};
-ghost use Rattle.fut_check.specs.Faults.{Walked, broken};
-ghost use Rattle.fut_check.specs.Names.{kind_named, element, means_cells, declaration};
-ghost use Rattle.fut_check.specs.Exprs.{needed_faults, for_int};
-ghost use Rattle.fut_check.specs.Widths.{expr_width, stmt_width, block_width, tail_width};
+ghost use Rattle.fut_rules.specs.Faults.{Walked, broken};
+ghost use Rattle.fut_rules.specs.Names.{kind_named, element, means_cells, declaration};
+ghost use Rattle.fut_rules.specs.Exprs.{needed_faults, for_int};
+ghost use Rattle.fut_rules.specs.Widths.{expr_width, stmt_width, block_width, tail_width};
 ghost use Rattle.fut_check.specs.Passing.{Passed};
 ghost use Rattle.fut_check.specs.Stmts as spec;
 
 use crate::declarations::{note_declared, walk_type};
-use crate::exprs::{expr_kind, walk_expr, walk_needed};
-use crate::fault::Rule;
-use crate::inits::{element, note_element, walk_call, walk_init};
-use crate::kind::{Kind, Need, kind_of, result_rule};
-use crate::names::{kind_named, means_cells};
-use crate::scope::Scope;
-use crate::search::Search;
 use fut_base::list::NoMemory;
+use fut_rules::exprs::{expr_kind, walk_expr, walk_needed};
+use fut_rules::fault::Rule;
+use fut_rules::inits::{element, note_element, walk_call, walk_init};
+use fut_rules::kind::{Kind, Need, kind_of, result_rule};
+use fut_rules::names::{kind_named, means_cells};
+use fut_rules::scope::Scope;
+use fut_rules::search::Search;
 use fut_syntax::tree::{Expr, Init, Item, Stmt, Tail, VarType};
 use std::alloc::Global;
 
@@ -76,7 +76,7 @@ fn element_need(items: &[Item], scope: &Scope, word: &[u8]) -> Option<Need>
 }
 
 /// Goes over a declaration without a value.
-#[tactic(auto, using(crate::proofs::Least::least_append))]
+#[tactic(auto, using(fut_rules::proofs::Least::least_append))]
 fn walk_declare(search: &mut Search, items: &[Item], scope: &Scope, word: &[u8], written: &VarType)
     requires { search.old.at + stmt_width (trees.Declare word.now (type_tree written.now)) ≤ search.old.end }
     ensures { Walked search.old search.new (stmt_width (trees.Declare word.now (type_tree written.now))) (spec.stmt_faults (items_tree items.now) scope.now search.old.at (trees.Declare word.now (type_tree written.now))) }
@@ -92,7 +92,7 @@ fn walk_declare(search: &mut Search, items: &[Item], scope: &Scope, word: &[u8],
 }
 
 /// Goes over a declaration with a value.
-#[tactic(auto, using(crate::proofs::Least::least_append))]
+#[tactic(auto, using(fut_rules::proofs::Least::least_append))]
 fn walk_define(
     search: &mut Search,
     items: &[Item],
@@ -121,7 +121,7 @@ fn walk_define(
 }
 
 /// Goes over an assignment of a variable.
-#[tactic(auto, using(crate::proofs::Least::least_append))]
+#[tactic(auto, using(fut_rules::proofs::Least::least_append))]
 fn walk_assign(search: &mut Search, items: &[Item], scope: &Scope, word: &[u8], value: &Init)
     requires { search.old.at + stmt_width (trees.Assign word.now (init_tree value.now)) ≤ search.old.end }
     ensures { Walked search.old search.new (stmt_width (trees.Assign word.now (init_tree value.now))) (spec.stmt_faults (items_tree items.now) scope.now search.old.at (trees.Assign word.now (init_tree value.now))) }
@@ -139,7 +139,7 @@ fn walk_assign(search: &mut Search, items: &[Item], scope: &Scope, word: &[u8], 
 }
 
 /// Goes over an assignment of an element or a cell.
-#[tactic(auto, using(crate::proofs::Least::least_append))]
+#[tactic(auto, using(fut_rules::proofs::Least::least_append))]
 fn walk_store(
     search: &mut Search,
     items: &[Item],
@@ -165,7 +165,7 @@ fn walk_store(
 }
 
 /// Goes over a `spawn`.
-#[tactic(auto, using(crate::proofs::Least::least_append))]
+#[tactic(auto, using(fut_rules::proofs::Least::least_append))]
 fn walk_spawn(search: &mut Search, items: &[Item], scope: &Scope, word: &[u8], args: &[Expr])
     requires { search.old.at + stmt_width (trees.SpawnOf word.now (args_tree args.now)) ≤ search.old.end }
     ensures { Walked search.old search.new (stmt_width (trees.SpawnOf word.now (args_tree args.now))) (spec.stmt_faults (items_tree items.now) scope.now search.old.at (trees.SpawnOf word.now (args_tree args.now))) }
@@ -176,7 +176,7 @@ fn walk_spawn(search: &mut Search, items: &[Item], scope: &Scope, word: &[u8], a
 }
 
 /// Goes over the word `if` or `while`, its test, and the opening bracket.
-#[tactic(auto, using(crate::proofs::Least::least_append))]
+#[tactic(auto, using(fut_rules::proofs::Least::least_append))]
 fn walk_test(search: &mut Search, scope: &Scope, test: &Expr)
     requires { search.old.at + 1 + expr_width (expr_tree test.now) + 1 ≤ search.old.end }
     ensures { Walked search.old search.new (1 + expr_width (expr_tree test.now) + 1) (needed_faults scope.now.visible (search.old.at + 1) for_int (expr_tree test.now)) }
@@ -187,7 +187,7 @@ fn walk_test(search: &mut Search, scope: &Scope, test: &Expr)
 }
 
 /// Goes over a `return`.
-#[tactic(auto, using(crate::proofs::Least::least_append, crate::proofs::Some::expr_some))]
+#[tactic(auto, using(fut_rules::proofs::Least::least_append, fut_rules::proofs::Some::expr_some))]
 fn walk_return(search: &mut Search, items: &[Item], scope: &Scope, value: &Expr)
     requires { search.old.at + stmt_width (trees.Return' (expr_tree value.now)) ≤ search.old.end }
     ensures { Walked search.old search.new (stmt_width (trees.Return' (expr_tree value.now))) (spec.stmt_faults (items_tree items.now) scope.now search.old.at (trees.Return' (expr_tree value.now))) }

@@ -9,10 +9,10 @@ use Rattle.fut_base.specs.declared.event.Event.{Event}
 use Rattle.fut_base.specs.declared.record.Race.{Race}
 use Rattle.fut_base.specs.declared.record.Finish.{Finish}
 use Rattle.fut_syntax.specs.Trees as tree
-use Rattle.fut_syntax.specs.declared.token.Place.{Place}
+use Rattle.fut_tokens.specs.declared.token.Place.{Place}
 use Rattle.fut_syntax.specs.Texts.{IsFaultPlace}
 use Rattle.fut_syntax.proofs.Programs.{one_program, no_faulty_program}
-use Rattle.fut_check.specs.Faults.{IsAmong}
+use Rattle.fut_rules.specs.Faults.{IsAmong}
 use Rattle.fut_check.specs.Items.{faults_of}
 use Rattle.task_machine.specs.Machine.{opening, IsStep, Leads}
 use Rattle.task_machine.proofs.Leading.{leads_to_one, split}

@@ -8,7 +8,7 @@ use Rattle.fut_base.specs.declared.record.Finish.TheVariants as finish
 use Rattle.fut_base.specs.Racing.{IsReport}
 use Rattle.fut_syntax.specs.Trees as tree
 use Rattle.fut_syntax.specs.declared.tree.Program as declared
-use Rattle.fut_syntax.specs.declared.token.Place.{Place}
+use Rattle.fut_tokens.specs.declared.token.Place.{Place}
 use Rattle.fut_syntax.specs.Views.{program_tree}
 use Rattle.fut_syntax.specs.Texts.{Parses, IsProgram}
 use Rattle.fut_check.specs.Checks.{HasPlaces, IsFaultOf}

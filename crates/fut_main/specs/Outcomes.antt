@@ -5,8 +5,8 @@ use Rattle.fut_base.specs.declared.record.Race.{Race}
 use Rattle.fut_base.specs.declared.record.Finish.{Finish}
 use Rattle.fut_base.specs.declared.record.Finish.TheVariants as finish
 use Rattle.fut_syntax.specs.declared.tree.Program as declared
-use Rattle.fut_syntax.specs.declared.token.Token.{Token}
-use Rattle.fut_syntax.specs.Lexed.{IsTokensOf}
+use Rattle.fut_tokens.specs.declared.token.Token.{Token}
+use Rattle.fut_tokens.specs.Lexed.{IsTokensOf}
 use Rattle.fut_syntax.specs.Texts.{IsProgram, IsFaultPlace}
 use Rattle.fut_syntax.specs.Views.{program_tree}
 use Rattle.fut_syntax.specs.Trees as tree

@@ -8,14 +8,14 @@ use Rattle.fut_base.specs.declared.record.Limits.{Limits}
 use Rattle.fut_base.specs.declared.record.Finish.TheVariants as finish
 use Rattle.fut_base.specs.Ports.{Rose, AppendsPart}
 use Rattle.fut_base.specs.Racing.{IsReport}
-use Rattle.fut_syntax.specs.declared.token.Place.{Place}
-use Rattle.fut_syntax.specs.declared.token.Token.{Token}
+use Rattle.fut_tokens.specs.declared.token.Place.{Place}
+use Rattle.fut_tokens.specs.declared.token.Token.{Token}
 use Rattle.fut_syntax.specs.Trees as tree
-use Rattle.fut_syntax.specs.Lexed.{IsTokensOf}
+use Rattle.fut_tokens.specs.Lexed.{IsTokensOf}
 use Rattle.fut_syntax.specs.Lines.{canonical_text}
 use Rattle.fut_syntax.specs.Texts.{IsProgram, IsFaultPlace}
-use Rattle.fut_check.specs.declared.fault.Fault.{Fault}
-use Rattle.fut_check.specs.Faults.{rule_number}
+use Rattle.fut_rules.specs.declared.fault.Fault.{Fault}
+use Rattle.fut_rules.specs.Faults.{rule_number}
 use Rattle.fut_check.specs.Items.{IsWellTyped, IsFirstFault}
 use Rattle.task_machine.specs.Texts.{cell_arrays}
 use Rattle.run_replay.specs.Serials.{IsSerialRun}

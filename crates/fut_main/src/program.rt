@@ -9,7 +9,8 @@ use fut_base::list::NoMemory;
 use fut_base::record::Text;
 use fut_check::{CheckFault, check};
 use fut_syntax::tree::Program;
-use fut_syntax::{ParseFault, parse, print};
+use fut_print::print;
+use fut_syntax::{ParseFault, parse};
 use std::alloc::Global;
 use task_code::code::Code;
 

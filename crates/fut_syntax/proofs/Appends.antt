@@ -1,11 +1,11 @@
 -- The tokens of a tree in front of others are its tokens and then the others.
 use Rattle.std.proofs.Common.{◌≡◌, ℕ, zero, suc, List, [], ◌∷◌, ◌++◌, refl, sym, ap, ◌∙◌, map}
-use Rattle.fut_syntax.specs.declared.token.Token.{Token}
-use Rattle.fut_syntax.specs.declared.token.Token.TheVariants as t
+use Rattle.fut_tokens.specs.declared.token.Token.{Token}
+use Rattle.fut_tokens.specs.declared.token.Token.TheVariants as t
 use Rattle.fut_syntax.specs.Trees.{Sign, NoSign, Negative, Inverted, Expr, Alone, Pair, Operand, Signed, Primary, Literal, Name, Bracket, Init, GetOf, CreateOf, Index, Value, VarType, Plain, Array, Stmt, Declare, Define, Assign, Store, SpawnOf, SyncAll, If', While', Return', Block, Done, Then, Tail, NoElse, ElseOf, Param, Item, CellsOf, TaskOf, Program}
 use Rattle.fut_syntax.specs.Tokens.{op_token, sign_before, expr_before, operand_before, primary_before, more_before, args_before, init_before, type_before, var_type_before, stmt_before, block_before, tail_before, param_before, more_params_before, params_before, item_before, items_before, program_tokens}
 use Rattle.fut_syntax.specs.Lines.{item_tokens, program_lines}
-use Rattle.fut_syntax.specs.Spelling.{tokens_in_lines}
+use Rattle.fut_tokens.specs.Spelling.{tokens_in_lines}
 
 -- spelling in front of others comes to the same as adding the others
 abbrev Appends : (List Token → List Token) → Type 0

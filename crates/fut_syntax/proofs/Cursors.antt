@@ -1,9 +1,9 @@
 -- The cursor goes on by one token.
 use Rattle.std.proofs.Common.{◌≡◌, ℕ, zero, suc, ◌+◌, ◌-◌, true, false, List, [], ◌∷◌, drop, get_or, length, refl, sym, ap, ◌∙◌, add-one, length-drop, arith}
-use Rattle.fut_syntax.specs.declared.token.Token.{Token}
-use Rattle.fut_syntax.specs.declared.token.Token.TheVariants as t
+use Rattle.fut_tokens.specs.declared.token.Token.{Token}
+use Rattle.fut_tokens.specs.declared.token.Token.TheVariants as t
 use Rattle.fut_syntax.specs.Steps.{behind, front, is_end}
-use Rattle.fut_syntax.specs.Ended.{IsEnded}
+use Rattle.fut_tokens.specs.Ended.{IsEnded}
 
 drop_suc : (n : ℕ) (xs : List Token) → drop (suc n) xs ≡ behind (drop n xs)
 drop_suc zero [] = refl

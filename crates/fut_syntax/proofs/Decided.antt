@@ -1,14 +1,14 @@
 -- Tokens with an end token have a tree or a fault.
 use Rattle.std.proofs.Common.{◌≡◌, ℕ, Bool, true, false, List, [], ◌∷◌, ◌++◌, ◌⊎◌, inl, inr, refl, sym, subst, ap, ◌∙◌, append-nil, length}
 use Rattle.std.specs.Prelude.{Option, Some, None, ◌&&◌}
-use Rattle.fut_syntax.specs.declared.token.Token.{Token}
-use Rattle.fut_syntax.specs.declared.token.Token.TheVariants as t
+use Rattle.fut_tokens.specs.declared.token.Token.{Token}
+use Rattle.fut_tokens.specs.declared.token.Token.TheVariants as t
 use Rattle.fut_syntax.specs.Trees.{Program}
 use Rattle.fut_syntax.specs.Tokens.{program_before}
 use Rattle.fut_syntax.specs.Machine.{Symbol, First, More, Params, ParamsTail, Type', Length, Block', Stmts, Else', VarInit, WordStmt, Init', InitTail, Args, ArgsTail, Expr', ExprTail, Operand', Primary', Word', Number', LeftParen', RightParen', LeftSquare', RightSquare', Semicolon', Colon', Equals', Answer, Takes, Passes, Stops, first_rule, rule, by_answer, next, go_on, walk, run_on, run, run64}
 use Rattle.fut_syntax.specs.Faults.{IsFault, IsWhole, is_full, open_by}
 use Rattle.fut_syntax.specs.Phrases.{Phrases}
-use Rattle.fut_syntax.specs.Ended.{IsEnded}
+use Rattle.fut_tokens.specs.Ended.{IsEnded}
 use Rattle.fut_syntax.specs.Steps.{is_end}
 use Rattle.fut_syntax.proofs.Viable.{walk_some, walk_back}
 use Rattle.fut_syntax.proofs.Exact.{fault, has_room}

@@ -1,7 +1,7 @@
 -- Where the run stops is the fault. Nothing here names a symbol of the grammar.
 use Rattle.std.proofs.Common.{◌≡◌, ℕ, Bool, true, false, List, [], ◌∷◌, ◌++◌, ◌⊎◌, inl, inr, refl, sym, subst, ap, ◌∙◌, append_assoc, length}
 use Rattle.std.specs.Prelude.{Option, Some, None}
-use Rattle.fut_syntax.specs.declared.token.Token.{Token}
+use Rattle.fut_tokens.specs.declared.token.Token.{Token}
 use Rattle.fut_syntax.specs.Tokens.{program_tokens}
 use Rattle.fut_syntax.specs.Machine.{Symbol, First, next, go_on, walk, run_on, run, run64, free}
 use Rattle.fut_syntax.specs.Faults.{Begins, IsBad, IsGood, IsFault, is_full, open_by, open_after}

@@ -1,23 +1,23 @@
 -- Texts have one tree at most, and none where they have a fault place. A tree's canonical text has this tree.
 use Rattle.std.proofs.Common.{◌≡◌, ℕ, false, List, [], ◌∷◌, map, sym, ap, ◌∙◌, subst, Result, Ok, Err}
 use Rattle.std.specs.Prelude.{Some}
-use Rattle.fut_syntax.specs.declared.token.Place.{Place}
+use Rattle.fut_tokens.specs.declared.token.Place.{Place}
 use Rattle.fut_syntax.specs.Trees.{Item, CellsOf, TaskOf, Program}
 use Rattle.fut_syntax.specs.Faults.{IsFault}
 use Rattle.fut_syntax.specs.Texts.{IsProgram, IsFaultPlace, Parses}
 use Rattle.fut_syntax.specs.TextLaws.{Rereads}
 use Rattle.fut_syntax.specs.Views.{program_tree}
-use Rattle.fut_syntax.specs.Lexed.{HasComments}
+use Rattle.fut_tokens.specs.Lexed.{HasComments}
 use Rattle.fut_syntax.specs.Lines.{item_tokens, program_lines, canonical_text}
-use Rattle.fut_syntax.specs.Spelling.{has_scrap, HaveTokens}
+use Rattle.fut_tokens.specs.Spelling.{has_scrap, HaveTokens}
 use Rattle.fut_syntax.specs.declared.program.ParseFault.{ParseFault}
 use Rattle.fut_syntax.specs.declared.program.ParseFault.TheVariants as fault
 use Rattle.fut_syntax.specs.declared.tree.Program as declared
 use Rattle.fut_syntax.proofs.Appends.{program_ended}
-use Rattle.fut_syntax.proofs.Cuts.{tokens_once}
+use Rattle.fut_tokens.proofs.Cuts.{tokens_once}
 use Rattle.fut_syntax.proofs.OneTree.{program_once}
 use Rattle.fut_syntax.proofs.Scraps.{program_none}
-use Rattle.fut_syntax.proofs.Spacing.{lines_read, lines_plain}
+use Rattle.fut_tokens.proofs.Spacing.{lines_read, lines_plain}
 use Rattle.fut_syntax.proofs.Whole.{no_fault}
 
 pub one_program : (bytes : List ℕ) (P Q : Program) → IsProgram bytes P → IsProgram bytes Q → P ≡ Q

@@ -1,11 +1,11 @@
 -- No program has a scrap.
 use Rattle.std.proofs.Common.{◌≡◌, ℕ, zero, suc, false, List, [], ◌∷◌, refl, ap, ◌∙◌}
 use Rattle.std.specs.Prelude.{◌||◌}
-use Rattle.fut_syntax.specs.declared.token.Token.{Token}
-use Rattle.fut_syntax.specs.declared.token.Token.TheVariants as t
+use Rattle.fut_tokens.specs.declared.token.Token.{Token}
+use Rattle.fut_tokens.specs.declared.token.Token.TheVariants as t
 use Rattle.fut_syntax.specs.Trees.{Sign, NoSign, Negative, Inverted, Op, Add, Subtract, Multiply, Divide, Remainder, BitAnd, BitOr, Equal, Unequal, Less, AtMost, Greater, AtLeast, Expr, Alone, Pair, Operand, Signed, Primary, Literal, Name, Bracket, Init, GetOf, CreateOf, Index, Value, VarType, Plain, Array, Stmt, Declare, Define, Assign, Store, SpawnOf, SyncAll, If', While', Return', Block, Done, Then, Tail, NoElse, ElseOf, Param, Item, CellsOf, TaskOf, Program}
 use Rattle.fut_syntax.specs.Tokens.{op_token, sign_before, expr_before, operand_before, primary_before, more_before, args_before, init_before, type_before, var_type_before, stmt_before, block_before, tail_before, more_params_before, params_before, item_before, items_before, program_tokens}
-use Rattle.fut_syntax.specs.Spelling.{is_scrap, has_scrap}
+use Rattle.fut_tokens.specs.Spelling.{is_scrap, has_scrap}
 
 -- spelling in front of others adds no scrap
 abbrev AddsNone : (List Token → List Token) → Type 0

@@ -1,8 +1,8 @@
 -- A symbol whose rule is another's goes as the other and what follows.
 use Rattle.std.proofs.Common.{◌≡◌, ℕ, Bool, List, [], ◌∷◌, ◌++◌, refl, ap, append_assoc, length}
 use Rattle.std.specs.Prelude.{Option, Some}
-use Rattle.fut_syntax.specs.declared.token.Token.{Token}
-use Rattle.fut_syntax.specs.declared.token.Token.TheVariants as t
+use Rattle.fut_tokens.specs.declared.token.Token.{Token}
+use Rattle.fut_tokens.specs.declared.token.Token.TheVariants as t
 use Rattle.fut_syntax.specs.Machine.{Symbol, Expr', ExprTail, Operand', Answer, Takes, Passes, Stops, then_due, operand_rule, expr_rule, rule, by_answer, next, run_on, run}
 
 -- an answer that isn't a pass

@@ -1,7 +1,7 @@
 -- The answer of the whole.
 use Rattle.std.proofs.Common.{◌≡◌, ℕ, List, [], ◌∷◌, length, refl, sym, ap, ◌∙◌}
 use Rattle.std.specs.Prelude.{Some, None}
-use Rattle.fut_syntax.specs.declared.token.Token.{Token}
+use Rattle.fut_tokens.specs.declared.token.Token.{Token}
 use Rattle.fut_syntax.specs.declared.cursor.Stop.TheVariants as stop
 use Rattle.fut_syntax.specs.declared.tree.Item.{Item}
 use Rattle.fut_syntax.specs.Trees.{Program}

@@ -1,8 +1,8 @@
 -- What the machine goes through is the beginning of a program.
 use Rattle.std.proofs.Common.{◌≡◌, ℕ, zero, suc, true, List, [], ◌∷◌, ◌++◌, inl, inr, refl, sym, subst, ap, ◌∙◌}
 use Rattle.std.specs.Prelude.{Option, Some, None}
-use Rattle.fut_syntax.specs.declared.token.Token.{Token}
-use Rattle.fut_syntax.specs.declared.token.Token.TheVariants as t
+use Rattle.fut_tokens.specs.declared.token.Token.{Token}
+use Rattle.fut_tokens.specs.declared.token.Token.TheVariants as t
 use Rattle.fut_syntax.specs.Trees.{NoSign, Negative, Inverted, Add, Subtract, Multiply, Divide, Remainder, BitAnd, BitOr, Equal, Unequal, Less, AtMost, Greater, AtLeast, Expr, Alone, Pair, Operand, Signed, Literal, Name, Bracket, GetOf, CreateOf, Index, Value, VarType, Plain, Array, Stmt, Declare, Define, Assign, Store, SpawnOf, SyncAll, If', While', Return', Done, Then, NoElse, ElseOf, Param, CellsOf, TaskOf}
 use Rattle.fut_syntax.specs.Tokens.{expr_before, operand_before, type_before, var_type_before, stmt_before, program_before}
 use Rattle.fut_syntax.specs.Machine.{Symbol, First, More, Params, ParamsTail, Type', Length, Block', Stmts, Else', VarInit, WordStmt, Init', InitTail, Args, ArgsTail, Expr', ExprTail, Operand', Primary', Word', Number', LeftParen', RightParen', LeftSquare', RightSquare', Semicolon', Colon', Equals', Answer, Takes, Passes, Stops, then_due, primary_rule, operand_rule, expr_rule, expr_tail_rule, args_tail_rule, args_rule, init_rule, init_tail_rule, type_rule, length_rule, var_init_rule, word_stmt_rule, stmts_rule, block_rule, else_rule, params_rule, params_tail_rule, first_rule, more_rule, word_rule, number_rule, left_paren_rule, right_paren_rule, left_square_rule, right_square_rule, semicolon_rule, colon_rule, equals_rule, rule, by_answer, next, go_on, walk}

@@ -1,6 +1,6 @@
 -- A list of tokens with a tree has no fault, and no list has two.
 use Rattle.std.proofs.Common.{◌≡◌, ℕ, List, [], ◌∷◌, ◌++◌, ◌⊎◌, inl, inr, length, refl, sym, subst, ap, ◌∙◌, append_assoc}
-use Rattle.fut_syntax.specs.declared.token.Token.{Token}
+use Rattle.fut_tokens.specs.declared.token.Token.{Token}
 use Rattle.fut_syntax.specs.Trees.{Program}
 use Rattle.fut_syntax.specs.Faults.{IsBad, IsGood, IsFault, IsWhole}
 

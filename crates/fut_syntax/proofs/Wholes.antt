@@ -1,8 +1,8 @@
 -- The items of a whole.
 use Rattle.std.proofs.Common.{◌≡◌, List, [], ◌∷◌, ◌++◌, ◌<◌, length, refl, sym, ap, ◌∙◌, append-nil, arith}
 use Rattle.std.specs.Prelude.{None}
-use Rattle.fut_syntax.specs.declared.token.Token.{Token}
-use Rattle.fut_syntax.specs.declared.token.Token.TheVariants as t
+use Rattle.fut_tokens.specs.declared.token.Token.{Token}
+use Rattle.fut_tokens.specs.declared.token.Token.TheVariants as t
 use Rattle.fut_syntax.specs.declared.tree.Item.{Item}
 use Rattle.fut_syntax.specs.Trees as trees
 use Rattle.fut_syntax.specs.Tokens.{item_before, items_before}

@@ -1,6 +1,6 @@
 -- What the parser answers.
 use Rattle.std.specs.Prelude.{◌≡◌, List, Some, Result, Ok, Err}
-use Rattle.fut_syntax.specs.declared.token.Token.{Token}
+use Rattle.fut_tokens.specs.declared.token.Token.{Token}
 use Rattle.fut_syntax.specs.declared.tree.Item.{Item}
 use Rattle.fut_syntax.specs.declared.parser.TokenFault.{TokenFault}
 use Rattle.fut_syntax.specs.declared.parser.TokenFault.TheVariants as fault

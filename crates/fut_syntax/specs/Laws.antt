@@ -1,7 +1,7 @@
 -- Laws over the machine and the grammar.
 use Rattle.std.specs.Prelude.{◌≡◌, ℕ, ◌⊎◌, false, List, [], ◌∷◌, Some, Result, Ok, Err}
-use Rattle.fut_syntax.specs.declared.token.Token.{Token}
-use Rattle.fut_syntax.specs.declared.token.Token.TheVariants as t
+use Rattle.fut_tokens.specs.declared.token.Token.{Token}
+use Rattle.fut_tokens.specs.declared.token.Token.TheVariants as t
 use Rattle.fut_syntax.specs.declared.tree.Item.{Item}
 use Rattle.fut_syntax.specs.declared.parser.TokenFault.{TokenFault}
 use Rattle.fut_syntax.specs.declared.parser.TokenFault.TheVariants as fault
@@ -9,9 +9,9 @@ use Rattle.fut_syntax.specs.Trees.{Program}
 use Rattle.fut_syntax.specs.Tokens.{program_tokens}
 use Rattle.fut_syntax.specs.Views.{program_tree}
 use Rattle.fut_syntax.specs.Lines.{program_lines}
-use Rattle.fut_syntax.specs.Spelling.{tokens_in_lines, has_scrap}
+use Rattle.fut_tokens.specs.Spelling.{tokens_in_lines, has_scrap}
 use Rattle.fut_syntax.specs.Machine.{Symbol, First, walk, run64}
-use Rattle.fut_syntax.specs.Ended.{IsEnded}
+use Rattle.fut_tokens.specs.Ended.{IsEnded}
 use Rattle.fut_syntax.specs.Faults.{IsBegun, IsFault, IsWhole}
 use Rattle.fut_syntax.specs.Answers.{IsAnswer}
 

@@ -1,9 +1,9 @@
 -- The lines of a program: the tokens of each item, and the text that they make.
 use Rattle.std.specs.Prelude.{ℕ, List, [], ◌∷◌, map}
-use Rattle.fut_syntax.specs.declared.token.Token.{Token}
+use Rattle.fut_tokens.specs.declared.token.Token.{Token}
 use Rattle.fut_syntax.specs.Trees.{Item, Program}
 use Rattle.fut_syntax.specs.Tokens.{item_before}
-use Rattle.fut_syntax.specs.Spelling.{lines_of}
+use Rattle.fut_tokens.specs.Spelling.{lines_of}
 
 -- the tokens of an item
 abbrev pub item_tokens : Item → List Token

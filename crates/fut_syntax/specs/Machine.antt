@@ -1,7 +1,7 @@
 -- The grammar as a machine with a stack, one token at a time.
 use Rattle.std.specs.Prelude.{ℕ, Bool, false, List, [], ◌∷◌, ◌++◌, length, Option, Some, None, cond}
-use Rattle.fut_syntax.specs.declared.token.Token.{Token}
-use Rattle.fut_syntax.specs.declared.token.Token.TheVariants as t
+use Rattle.fut_tokens.specs.declared.token.Token.{Token}
+use Rattle.fut_tokens.specs.declared.token.Token.TheVariants as t
 use Rattle.fut_syntax.specs.Trees.{Op, Add, Subtract, Multiply, Divide, Remainder, BitAnd, BitOr, Equal, Unequal, Less, AtMost, Greater, AtLeast}
 use Rattle.fut_syntax.specs.Faults.{is_full, open_by}
 

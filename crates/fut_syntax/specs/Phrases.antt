@@ -1,7 +1,7 @@
 -- The tokens that a symbol stands for, in front of others.
 use Rattle.std.specs.Prelude.{◌≡◌, ℕ, ◌⊎◌, List, [], ◌∷◌}
-use Rattle.fut_syntax.specs.declared.token.Token.{Token}
-use Rattle.fut_syntax.specs.declared.token.Token.TheVariants as t
+use Rattle.fut_tokens.specs.declared.token.Token.{Token}
+use Rattle.fut_tokens.specs.declared.token.Token.TheVariants as t
 use Rattle.fut_syntax.specs.Trees.{Op, Expr, Operand, Primary, Init, Block, Tail, Param, Item, Program}
 use Rattle.fut_syntax.specs.Tokens.{op_token, expr_before, operand_before, primary_before, more_before, args_before, init_before, type_before, block_before, tail_before, params_before, more_params_before, items_before, program_before}
 use Rattle.fut_syntax.specs.Machine.{Symbol, First, More, Params, ParamsTail, Type', Length, Block', Stmts, Else', VarInit, WordStmt, Init', InitTail, Args, ArgsTail, Expr', ExprTail, Operand', Primary', Word', Number', LeftParen', RightParen', LeftSquare', RightSquare', Semicolon', Colon', Equals'}

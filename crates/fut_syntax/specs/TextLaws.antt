@@ -1,12 +1,12 @@
 -- Laws of texts.
 use Rattle.std.specs.Prelude.{◌≡◌, ℕ, false, List, Some, Result, Ok, Err}
-use Rattle.fut_syntax.specs.declared.token.Place.{Place}
+use Rattle.fut_tokens.specs.declared.token.Place.{Place}
 use Rattle.fut_syntax.specs.declared.program.ParseFault.{ParseFault}
 use Rattle.fut_syntax.specs.declared.program.ParseFault.TheVariants as fault
 use Rattle.fut_syntax.specs.declared.tree.Program as declared
 use Rattle.fut_syntax.specs.Trees.{Program}
 use Rattle.fut_syntax.specs.Views.{program_tree}
-use Rattle.fut_syntax.specs.Lexed.{HasComments}
+use Rattle.fut_tokens.specs.Lexed.{HasComments}
 use Rattle.fut_syntax.specs.Lines.{canonical_text}
 use Rattle.fut_syntax.specs.Texts.{IsProgram, IsFaultPlace, Parses}
 

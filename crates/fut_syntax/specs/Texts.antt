@@ -1,14 +1,14 @@
 -- Which texts are programs, and where the fault of another text stands.
 use Rattle.std.specs.Prelude.{◌≡◌, ℕ, List, length, slice_get, Some, Result, Ok, Err}
-use Rattle.fut_syntax.specs.declared.token.Token.{Token}
-use Rattle.fut_syntax.specs.declared.token.Place.{Place}
+use Rattle.fut_tokens.specs.declared.token.Token.{Token}
+use Rattle.fut_tokens.specs.declared.token.Place.{Place}
 use Rattle.fut_syntax.specs.declared.program.ParseFault.{ParseFault}
 use Rattle.fut_syntax.specs.declared.program.ParseFault.TheVariants as fault
 use Rattle.fut_syntax.specs.declared.tree.Item.{Item}
 use Rattle.fut_syntax.specs.declared.tree.Program as declared
 use Rattle.fut_syntax.specs.Trees as trees
 use Rattle.fut_syntax.specs.Views.{program_tree}
-use Rattle.fut_syntax.specs.Lexed.{IsTokensOf, HasComments}
+use Rattle.fut_tokens.specs.Lexed.{IsTokensOf, HasComments}
 use Rattle.fut_syntax.specs.Faults.{IsWhole, IsFault}
 use Rattle.fut_syntax.specs.Lines.{canonical_text}
 

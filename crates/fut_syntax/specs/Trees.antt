@@ -1,5 +1,5 @@
 -- The trees of programs: the whole grammar.
-use Rattle.std.specs.Prelude.{ℕ, List}
+use Rattle.std.specs.Prelude.{ℕ, List, ◌∷◌}
 
 -- a sign before an operand
 pub data Sign : Type 0 where
@@ -85,3 +85,7 @@ pub data Item : Type 0 where
 pub record Program : Type 0 where
   pub first : Item
   pub others : List Item
+
+-- all items, in the order of the text
+abbrev pub items_of : Program → List Item
+items_of P = P.first ∷ P.others

@@ -1,9 +1,9 @@
 //! The tokens that are left to be read.
 ghost use Rattle.std.specs.Prelude.{◌≡◌, ◌∷◌, [], true, false, length};
 ghost use Rattle.fut_syntax.specs.Steps.{behind, front, is_end};
-ghost use Rattle.fut_syntax.specs.Ended.{IsEnded};
+ghost use Rattle.fut_tokens.specs.Ended.{IsEnded};
 
-use crate::token::Token;
+use fut_tokens::token::Token;
 use std::alloc::{AllocError, AllocFailed};
 use std::marker::Model;
 
@@ -46,8 +46,8 @@ pub struct Cursor {
 
 impl Model for Cursor {
     ghost use Rattle.std.specs.Prelude.{List, drop};
-    ghost use Rattle.fut_syntax.specs.Ended.{IsEnded};
-    ghost use Rattle.fut_syntax.specs.declared.token.Token.{Token};
+    ghost use Rattle.fut_tokens.specs.Ended.{IsEnded};
+    ghost use Rattle.fut_tokens.specs.declared.token.Token.{Token};
 
     ghost Value = { List Token };
 

@@ -8,8 +8,8 @@ ghost use Rattle.fut_syntax.specs.Machine.{Expr', Operand', Primary'};
 
 use crate::cursor::{Cursor, Stop};
 use crate::signs::{close_paren, copy_name, enter, operator, sign};
-use crate::token::Token;
 use crate::tree::{Expr, Operand, Primary};
+use fut_tokens::token::Token;
 use sqlite_items::Boxed;
 use std::alloc::Global;
 

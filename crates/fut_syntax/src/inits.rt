@@ -1,6 +1,6 @@
 //! Reads calls, and what a variable is set to.
 ghost use Rattle.std.specs.Prelude.{◌≡◌, ◌≤◌, ◌-◌, ◌∷◌, []};
-ghost use Rattle.fut_syntax.specs.declared.token.Token.TheVariants as t;
+ghost use Rattle.fut_tokens.specs.declared.token.Token.TheVariants as t;
 ghost use Rattle.fut_syntax.specs.Tokens.{args_before, init_before, var_init_before};
 ghost use Rattle.fut_syntax.specs.Views.{args_tree, call_tree, init_tree, var_init_tree};
 ghost use Rattle.fut_syntax.specs.Steps.{Read, ReadTo, ReadOn, called, front};
@@ -9,8 +9,8 @@ ghost use Rattle.fut_syntax.specs.Machine.{Init', InitTail, VarInit, Args, Word'
 use crate::cursor::{Cursor, Stop};
 use crate::exprs::{expr, operand};
 use crate::signs::{close_square, copy_name, enter, open_paren, operator, word};
-use crate::token::Token;
 use crate::tree::{Expr, Init, Operand, Primary, Sign};
+use fut_tokens::token::Token;
 use sqlite_items::Items;
 use std::alloc::Global;
 

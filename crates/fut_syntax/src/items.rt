@@ -1,6 +1,6 @@
 //! Reads items, and a whole program.
 ghost use Rattle.std.specs.Prelude.{◌≡◌, ◌≤◌, ◌-◌, ◌∷◌, []};
-ghost use Rattle.fut_syntax.specs.declared.token.Token.TheVariants as t;
+ghost use Rattle.fut_tokens.specs.declared.token.Token.TheVariants as t;
 ghost use Rattle.fut_syntax.specs.Tokens.{param_before, params_before, item_before};
 ghost use Rattle.fut_syntax.specs.Views.{param_tree, params_tree, item_tree};
 ghost use Rattle.fut_syntax.specs.Steps.{ReadTo, ReadOn, Parsed};
@@ -9,9 +9,9 @@ ghost use Rattle.fut_syntax.specs.Machine.{First, More, Params, Type', Length, B
 use crate::cursor::{Cursor, Stop};
 use crate::signs::{close_square, colon, number, open_paren, open_square, semicolon, word};
 use crate::stmts::block;
-use crate::token::Token;
 use crate::tree::{Item, Param};
 use crate::types::{type_depth, var_type};
+use fut_tokens::token::Token;
 use sqlite_items::Items;
 use std::alloc::Global;
 

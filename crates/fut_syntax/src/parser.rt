@@ -1,12 +1,12 @@
 //! The parser: from tokens to the items of a program.
 ghost use Rattle.std.specs.Prelude.{◌≡◌};
-ghost use Rattle.fut_syntax.specs.Ended.{IsEnded};
+ghost use Rattle.fut_tokens.specs.Ended.{IsEnded};
 ghost use Rattle.fut_syntax.specs.Answers.{IsAnswer};
 
 use crate::cursor::{Cursor, Stop};
 use crate::items::items;
-use crate::token::Token;
 use crate::tree::Item;
+use fut_tokens::token::Token;
 use sqlite_items::Items;
 use std::alloc::Global;
 

@@ -2,11 +2,11 @@
 ghost use Rattle.std.specs.Prelude.{◌≡◌, ◌+◌, ◌^◌, ◌<◌, length};
 ghost use Rattle.fut_syntax.specs.Texts.{Parses};
 
-use crate::lexer::{Lexed, tokens};
 use crate::parser::{TokenFault, parse_tokens};
-use crate::token::Place;
 use crate::tree::Program;
 use fut_base::list::NoMemory;
+use fut_tokens::token::Place;
+use fut_tokens::{Lexed, tokens};
 use sqlite_items::Items;
 use std::alloc::Global;
 

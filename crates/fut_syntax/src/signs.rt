@@ -1,13 +1,13 @@
 //! Parts of one token.
 ghost use Rattle.std.specs.Prelude.{◌≡◌, true};
-ghost use Rattle.fut_syntax.specs.declared.token.Token.TheVariants as t;
+ghost use Rattle.fut_tokens.specs.declared.token.Token.TheVariants as t;
 ghost use Rattle.fut_syntax.specs.Steps.{front, Entered, Opened, Taken, Closed, TakenPart, TakenOp, TakenSign, Copied, word_before, number_before};
 ghost use Rattle.fut_syntax.specs.Faults.{opens};
 ghost use Rattle.fut_syntax.specs.Machine.{Word', Number', Semicolon', Colon', Equals', LeftParen', RightParen', LeftSquare', RightSquare'};
 
 use crate::cursor::{Cursor, Stop};
-use crate::token::Token;
 use crate::tree::{Operator, Sign};
+use fut_tokens::token::Token;
 use sqlite_items::Items;
 use std::alloc::Global;
 

@@ -1,6 +1,6 @@
 //! Reads statements and blocks.
 ghost use Rattle.std.specs.Prelude.{◌≡◌, ◌≤◌, ◌∷◌, [], false};
-ghost use Rattle.fut_syntax.specs.declared.token.Token.TheVariants as t;
+ghost use Rattle.fut_tokens.specs.declared.token.Token.TheVariants as t;
 ghost use Rattle.fut_syntax.specs.Trees as trees;
 ghost use Rattle.fut_syntax.specs.Tokens.{stmt_before, tail_before};
 ghost use Rattle.fut_syntax.specs.Views.{expr_tree, stmt_tree, block_tree, tail_tree};
@@ -11,9 +11,9 @@ use crate::cursor::{Cursor, Stop};
 use crate::exprs::expr;
 use crate::inits::{call, init, var_init};
 use crate::signs::{close_square, colon, copy_name, enter, equals, semicolon, word};
-use crate::token::Token;
 use crate::tree::{Expr, Stmt, Tail};
 use crate::types::var_type;
+use fut_tokens::token::Token;
 use sqlite_items::Items;
 use std::alloc::Global;
 

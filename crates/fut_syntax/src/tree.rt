@@ -1,5 +1,5 @@
 //! The trees of programs.
-use crate::token::Place;
+use fut_tokens::token::Place;
 use sqlite_items::{Boxed, Items};
 
 /// The sign before an operand.

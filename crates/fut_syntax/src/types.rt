@@ -7,8 +7,8 @@ ghost use Rattle.fut_syntax.specs.Machine.{Type', Length};
 
 use crate::cursor::{Cursor, Stop};
 use crate::signs::{close_square, enter, number};
-use crate::token::Token;
 use crate::tree::VarType;
+use fut_tokens::token::Token;
 
 /// `int` behind any number of `fut`, and gives this number.
 pub fn type_depth(cursor: &mut Cursor) -> Result<u64, Stop>

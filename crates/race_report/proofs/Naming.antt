@@ -6,7 +6,7 @@ use Rattle.std.proofs.lemmas.Bool.Decides.{leb_tells}
 use Rattle.task_machine.specs.Texts.{CellArray}
 use Rattle.task_machine.specs.Texts.{arrays_from, count_cells}
 use Rattle.fut_syntax.specs.Trees as tree
-use Rattle.fut_syntax.specs.Small.{items_of}
+use Rattle.fut_syntax.specs.Trees.{items_of}
 use Rattle.race_report.specs.Laws.{IsNameOf, CellsAreNamed}
 use Rattle.race_report.specs.Brief.{cell_name}
 

@@ -1,5 +1,5 @@
--- The report that a map of first pairs gives, and that there is only one.
-use Rattle.std.proofs.Common.{◌≡◌, ℕ, ◌<◌, ◌≤◌, List, [], ◌∷◌, length, refl, sym, ◌∙◌, ap, subst, inl, inr, arith}
+-- The report that a map of first pairs gives.
+use Rattle.std.proofs.Common.{◌≡◌, ℕ, ◌<◌, List, [], ◌∷◌, length, refl, sym, ◌∙◌, ap, subst, arith}
 use Rattle.std.specs.Prelude.{slice_get, Option, Some, None, option_map, All, Any}
 use Rattle.std.specs.declared.cmp.Ordering.TheVariants.{Less}
 use Rattle.std.specs.List.{AllByRecursion}
@@ -16,10 +16,8 @@ use Rattle.std.proofs.lemmas.Map.Views.{All-found}
 use Rattle.std.proofs.lemmas.Option.{slice_get_within, slice_get-map, get_or_from_slice_get}
 use Rattle.fut_base.specs.declared.event.Event.{Event}
 use Rattle.fut_base.specs.declared.record.Race.{Race}
-use Rattle.fut_base.specs.Dag.{Among}
 use Rattle.fut_base.specs.Racing.{PlacesRace, IsFirstPair, AreRising, IsReport}
 use Rattle.race_report.specs.Pairs.{IsFoundBefore}
-use Rattle.race_report.proofs.Paths.{all_among, among_at}
 
 less : (a b : ℕ) → nat_cmp a b ≡ Less → a < b
 less a b h = grind (arith, nat_tests)
@@ -63,60 +61,3 @@ report_of h m ordered known =
           found_value (λ (s : Race). s.cell ≡ c) c entries r.0 r.1 r.2);
       order = rising entries ordered kept;
     }
-
-same_pair : (h : List Event) (c i j m n : ℕ) → IsFirstPair h c i j → IsFirstPair h c m n → (i ≡ m) × (j ≡ n)
-same_pair h c i j m n one other =
-    let seconds : j ≡ n = omega (arith, one.least m n other.race, other.least i j one.race) in
-    let up : i ≤ m = other.greatest i (subst (λ k. PlacesRace h c i k) seconds one.race) in
-    let down : m ≤ i = one.greatest m (subst (λ k. PlacesRace h c m k) (sym seconds) other.race) in
-    (omega arith, seconds)
-
-abbrev race_at : ℕ → ℕ → ℕ → Race
-race_at cell first second = record { cell = cell; first = first; second = second }
-
-same_race : (r s : Race) → r.cell ≡ s.cell → r.first ≡ s.first → r.second ≡ s.second → r ≡ s
-same_race r s cells firsts seconds =
-    ap (λ c. race_at c r.first r.second) cells ∙ (ap (λ i. race_at s.cell i r.second) firsts ∙ ap (λ j. race_at s.cell s.first j) seconds)
-
-any_among : (P : Race → Type 0) (xs : List Race) → Any P xs → (x : Race) × Among x xs × P x
-any_among P xs any = (any.1, subst (λ x. Among x xs) any.3 (among_at xs any.0 any.1 any.2), any.4)
-
-in_other : (h : List Event) (xs ys : List Race) → IsReport h xs → IsReport h ys → (r : Race) → Among r xs → Among r ys
-in_other h xs ys one other r among =
-    let First : Race → Type 0 = λ s. IsFirstPair h s.cell s.first s.second in
-    let first = all_among First xs one.each r among in
-    let s = any_among (λ (s : Race). s.cell ≡ r.cell) ys (other.whole r.cell r.first r.second first.race) in
-    let there : IsFirstPair h r.cell s.0.first s.0.second = subst (λ c. IsFirstPair h c s.0.first s.0.second) s.2 (all_among First ys other.each s.0 s.1) in
-    let same = same_pair h r.cell s.0.first s.0.second r.first r.second there first in
-    subst (λ x. Among x ys) (same_race s.0 r s.2 same.0 same.1) s.1
-
-same_rising : (xs ys : List Race) → AreRising xs → AreRising ys → ((r : Race) → Among r xs → Among r ys) → ((r : Race) → Among r ys → Among r xs) → xs ≡ ys
-same_rising [] [] rx ry to from = refl
-same_rising [] (y ∷ ys) rx ry to from = absurd (from y (inl refl))
-same_rising (x ∷ xs) [] rx ry to from = absurd (to x (inl refl))
-same_rising (x ∷ xs) (y ∷ ys) rx ry to from =
-    let after_x : (r : Race) → Among r xs → x.cell < r.cell = all_among (λ (r : Race). x.cell < r.cell) xs rx.0 in
-    let after_y : (r : Race) → Among r ys → y.cell < r.cell = all_among (λ (r : Race). y.cell < r.cell) ys ry.0 in
-    let heads : x ≡ y = elim (to x (inl refl)) [
-      | inl same ↦ sym same
-      | inr later ↦ elim (from y (inl refl)) [
-        | inl same ↦ same
-        | inr behind ↦ absurd (omega (arith, after_y x later, after_x y behind))
-      ]
-    ] in
-    let cells : x.cell ≡ y.cell = ap (λ (r : Race). r.cell) heads in
-    let tails : xs ≡ ys =
-    same_rising xs ys rx.1 ry.1
-    (λ r h. elim (to r (inr h)) [
-      | inl same ↦ absurd (omega (arith, cells, ap (λ (s : Race). s.cell) same, after_x r h))
-      | inr there ↦ there
-    ])
-    (λ r h. elim (from r (inr h)) [
-      | inl same ↦ absurd (omega (arith, cells, ap (λ (s : Race). s.cell) same, after_y r h))
-      | inr there ↦ there
-    ]) in
-    ap (λ r. r ∷ xs) heads ∙ ap (λ l. y ∷ l) tails
-
-pub one_report : (h : List Event) (xs ys : List Race) → IsReport h xs → IsReport h ys → xs ≡ ys
-one_report h xs ys one other =
-    same_rising xs ys one.order other.order (in_other h xs ys one other) (in_other h ys xs other one)

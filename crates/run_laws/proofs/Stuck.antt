@@ -12,7 +12,7 @@ use Rattle.fut_base.specs.Dag.{Among, block_of}
 use Rattle.fut_base.specs.Orders.{english_past, stands_before}
 use Rattle.fut_base.specs.Sound.{next_strand, next_task, holds_handle, HoldsValue}
 use Rattle.fut_syntax.specs.Trees as tree
-use Rattle.fut_syntax.specs.Small.{items_of}
+use Rattle.fut_syntax.specs.Trees.{items_of}
 use Rattle.task_machine.specs.Values.{index_of}
 use Rattle.task_machine.specs.Texts.{CellArray, arrays_from, cell_at, cell_count, count_cells, find_cell, task_number}
 use Rattle.task_machine.specs.Variables.{Variables, number_in, slot_at, value_of, value_in, values_in}

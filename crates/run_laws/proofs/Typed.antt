@@ -3,13 +3,13 @@ use Rattle.std.proofs.Common.{◌≡◌, ℕ, zero, suc, ◌+◌, ◌<◌, Bool,
 use Rattle.std.specs.Prelude.{◌||◌, nat_eq, nat_lt}
 use Rattle.fut_base.specs.Dag.{Among}
 use Rattle.fut_syntax.specs.Trees as tree
-use Rattle.fut_check.specs.declared.fault.Fault.{Fault}
-use Rattle.fut_check.specs.declared.fault.Rule.{Rule}
-use Rattle.fut_check.specs.declared.fault.Rule.TheVariants as rule
-use Rattle.fut_check.specs.Faults.{fault_if}
+use Rattle.fut_rules.specs.declared.fault.Fault.{Fault}
+use Rattle.fut_rules.specs.declared.fault.Rule.{Rule}
+use Rattle.fut_rules.specs.declared.fault.Rule.TheVariants as rule
+use Rattle.fut_rules.specs.Faults.{fault_if}
 use Rattle.fut_check.specs.Items.{item_faults, items_faults, is_bad_array}
-use Rattle.fut_check.specs.Names.{cells, declares}
-use Rattle.fut_check.specs.Widths.{item_width}
+use Rattle.fut_rules.specs.Names.{cells, declares}
+use Rattle.fut_rules.specs.Widths.{item_width}
 use Rattle.task_machine.specs.Texts.{CellArray, arrays_from}
 use Rattle.run_laws.specs.Laws.{WellTypedHasCells}
 

@@ -12,5 +12,4 @@ pub mod Only
 pub mod Finding
 pub mod Stepping
 pub mod Finishing
-pub mod Reports
 pub mod Checked

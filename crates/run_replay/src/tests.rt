@@ -151,6 +151,68 @@ fn other_events_are_refused(rt: HostRuntime) -> Result<(), Fail> {
     Ok(())
 }
 
+/// A future writes a cell and ends with 7, and `main` gets it. The serial run: 0 t0 s0 create 0 t1 s1 s2, 1 t1 s1 write 0 1,
+/// 2 t1 s1 end 7, 3 t0 s2 get f1 7 s3, 4 t0 s3 write 0 7, 5 t0 s3 end 0.
+const GOT: &str =
+    "cells a[1]; task f() int { a[0] = 1; return 7; } task main() int { var h: fut int = create f(); var x: int = get h; a[0] = x; return 0; }";
+
+/// The first unended task in English order after so many of these entries; `None` also where one of them was not made.
+fn first_task(
+    alloc: Global,
+    code: &Code,
+    entries: &[Entry],
+    count: usize,
+) -> Result<Option<u32>, NoMemory>
+    requires { (P : tree.Program) × IsWellTyped P × IsCodeOf P code.now }
+{
+    if count > entries.len() {
+        return Ok(None);
+    }
+    let mut run = Replay::start(alloc, code)?;
+    if !make_all(&mut run, code, &entries[..count]) {
+        return Ok(None);
+    }
+    Ok(run.next_ready())
+}
+
+#[test]
+fn first_tasks_are_named(rt: HostRuntime) -> Result<(), Fail> {
+    let alloc = rt.alloc();
+    let text = GOT.as_bytes();
+    assert!(rt; text.len() < 8192);
+    let code = code_of(alloc, text)?;
+    let ran = serial(alloc, &code, MOST)?;
+    let entries = ran.history.as_slice();
+    assert_eq!(rt; entries.len(), 6);
+    let firsts = [
+        (0, Some(0)),
+        (1, Some(1)),
+        (2, Some(1)),
+        (3, Some(0)),
+        (4, Some(0)),
+        (5, Some(0)),
+        (6, None),
+    ];
+    for (count, first) in firsts {
+        assert_eq!(rt; first_task(alloc, &code, entries, count)?, first, "{count}");
+    }
+    let get = Entry {
+        task: 0,
+        strand: 2,
+        act: Act::Get {
+            future: 1,
+            value: Value::Int(7),
+            strand: 3,
+        },
+    };
+    // the future has not ended: the get is refused, and the run goes on as if it had not been tried
+    for place in [1, 2] {
+        let told = refusal(alloc, &code, entries, place, &get)?;
+        assert_eq!(rt; told, Some(StepStop::NotLegal), "{place}");
+    }
+    Ok(())
+}
+
 /// A future and a child write two cells, as above. The serial run: 0 t0 s0 create 0 t1 s1 s2 3, 1 t1 s1 write 0 3,
 /// 2 t1 s1 write 1 3, 3 t1 s1 end 5, 4 t0 s2 spawn 0 t2 s3 s4 4, 5 t2 s3 write 0 4, 6 t2 s3 write 1 4, 7 t2 s3 end 5,
 /// 8 t0 s4 sync s5, 9 t0 s5 read 0 4, 10 t0 s5 get f1 5 s6, 11 t0 s6 end 5. Its races: cell 0 at 1 and 5, cell 1 at 2 and 6.

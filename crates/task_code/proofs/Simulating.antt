@@ -6,7 +6,7 @@ use Rattle.std.proofs.lemmas.Option.{slice_get_within}
 use Rattle.fut_base.specs.declared.record.Value.{Value}
 use Rattle.fut_base.specs.declared.record.Value.TheVariants.{Int}
 use Rattle.fut_syntax.specs.Trees as tree
-use Rattle.fut_syntax.specs.Small.{items_of}
+use Rattle.fut_syntax.specs.Trees.{items_of}
 use Rattle.task_machine.specs.Values.{number_of, is_zero, index_of}
 use Rattle.task_machine.specs.Variables.{Slot, One, Many, Variables, slot_at, put, value_of, values_of, filled, refilled, value_in, number_in, values_in, slot_in}
 use Rattle.task_machine.specs.Texts.{CellArray, cell_arrays, cell_at, find_cell, stmts_of, else_of}

@@ -11,7 +11,7 @@ use Rattle.fut_base.specs.declared.event.Action.TheVariants.{Reads, Writes, Spaw
 use Rattle.fut_base.specs.Dag.{ends}
 use Rattle.fut_base.specs.Events.{event_of, action_of}
 use Rattle.fut_syntax.specs.Trees as tree
-use Rattle.fut_syntax.specs.Small.{items_of}
+use Rattle.fut_syntax.specs.Trees.{items_of}
 use Rattle.task_machine.specs.Variables.{Slot, bound}
 use Rattle.task_machine.specs.Texts.{CellArray, TaskText, cell_arrays, tasks_of, task_at, stmts_of}
 use Rattle.task_machine.specs.State.{TaskState, Wish, started, read_of, write_of, get_of, end_of, NoWish, ToSpawn, ToCreate, local_step, wish_of, effect_of, start_state, Answers}

@@ -7,7 +7,7 @@ use Rattle.fut_syntax.specs.declared.tree.Item.{Item}
 use Rattle.fut_syntax.specs.declared.tree.Item.TheVariants as item
 use Rattle.fut_syntax.specs.declared.tree.Stmt.{Stmt}
 use Rattle.fut_syntax.specs.Trees as tree
-use Rattle.fut_syntax.specs.Small.{items_of}
+use Rattle.fut_syntax.specs.Trees.{items_of}
 use Rattle.fut_syntax.specs.Views.{item_tree, params_tree, block_tree, items_tree, program_tree}
 use Rattle.task_machine.specs.Texts.{CellArray, arrays_from, count_cells, tasks_from}
 use Rattle.task_frame.specs.declared.names.Name.{Name}

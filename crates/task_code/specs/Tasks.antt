@@ -9,7 +9,7 @@ use Rattle.fut_base.specs.declared.event.Action.TheVariants.{Reads, Spawns, Crea
 use Rattle.fut_base.specs.Events.{event_of}
 use Rattle.fut_base.specs.Listed.{Listed}
 use Rattle.fut_syntax.specs.Trees as tree
-use Rattle.fut_syntax.specs.Small.{items_of}
+use Rattle.fut_syntax.specs.Trees.{items_of}
 use Rattle.task_machine.specs.Values.{is_zero, index_of}
 use Rattle.task_machine.specs.Variables.{Slot, One, Many, value_of, refilled}
 use Rattle.task_machine.specs.Texts.{CellArray}

@@ -1,7 +1,7 @@
 -- The cells and the tasks of a program.
 use Rattle.std.specs.Prelude.{ℕ, ◌+◌, if◌then◌else◌, List, [], ◌∷◌, slice_get, Option, Some, None, unwrap_or, ℤ, bytes_eq, codes}
 use Rattle.fut_syntax.specs.Trees as tree
-use Rattle.fut_syntax.specs.Small.{items_of}
+use Rattle.fut_syntax.specs.Trees.{items_of}
 use Rattle.task_machine.specs.Values.{index_of}
 
 -- an array of cells: its name, the number of its first cell, and its length

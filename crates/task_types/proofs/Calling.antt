@@ -6,16 +6,16 @@ use Rattle.fut_base.specs.declared.record.Value.{Value}
 use Rattle.fut_base.specs.declared.record.Value.TheVariants.{Int}
 use Rattle.fut_base.specs.Dag.{Among}
 use Rattle.fut_syntax.specs.Trees as tree
-use Rattle.fut_check.specs.declared.kind.Kind.{Kind}
-use Rattle.fut_check.specs.declared.kind.Kind.TheVariants as kind
-use Rattle.fut_check.specs.declared.fault.Rule.TheVariants as rule
-use Rattle.fut_check.specs.declared.names.Variable.{Variable}
-use Rattle.fut_check.specs.Faults.{broken}
-use Rattle.fut_check.specs.Kinds.{kind_of, size, argument_need}
-use Rattle.fut_check.specs.Names.{Signature, declares, declaration, means_cells, means_task}
-use Rattle.fut_check.specs.Exprs.{needed_faults}
-use Rattle.fut_check.specs.Inits.{call_rule, tested_params, args_faults, call_faults}
-use Rattle.fut_check.specs.Widths.{expr_width}
+use Rattle.fut_rules.specs.declared.kind.Kind.{Kind}
+use Rattle.fut_rules.specs.declared.kind.Kind.TheVariants as kind
+use Rattle.fut_rules.specs.declared.fault.Rule.TheVariants as rule
+use Rattle.fut_rules.specs.declared.names.Variable.{Variable}
+use Rattle.fut_rules.specs.Faults.{broken}
+use Rattle.fut_rules.specs.Kinds.{kind_of, size, argument_need}
+use Rattle.fut_rules.specs.Names.{Signature, declares, declaration, means_cells, means_task}
+use Rattle.fut_rules.specs.Exprs.{needed_faults}
+use Rattle.fut_rules.specs.Inits.{call_rule, tested_params, args_faults, call_faults}
+use Rattle.fut_rules.specs.Widths.{expr_width}
 use Rattle.fut_check.specs.Items.{items_of, param_variable, param_variables, IsWellTyped}
 use Rattle.task_machine.specs.Values.{index_of}
 use Rattle.task_machine.specs.Variables.{Slot, One, Many, Variables, slot_at, values_of, slot_in, values_in, size_of, taken, bound}

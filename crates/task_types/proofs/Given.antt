@@ -5,15 +5,15 @@ use Rattle.std.proofs.lemmas.List.{length-replicate}
 use Rattle.fut_base.specs.declared.record.Value.{Value}
 use Rattle.fut_base.specs.Dag.{Among}
 use Rattle.fut_syntax.specs.Trees as tree
-use Rattle.fut_check.specs.declared.kind.Kind.{Kind}
-use Rattle.fut_check.specs.declared.kind.Kind.TheVariants as kind
-use Rattle.fut_check.specs.declared.kind.Need.{Need}
-use Rattle.fut_check.specs.declared.kind.Need.TheVariants as need
-use Rattle.fut_check.specs.declared.names.Variable.{Variable}
-use Rattle.fut_check.specs.Faults.{broken}
-use Rattle.fut_check.specs.Kinds.{plain, kind_of, argument_need, init_need, need_rule, unmet}
-use Rattle.fut_check.specs.Names.{kind_named}
-use Rattle.fut_check.specs.Exprs.{expr_kind, operand_kind, primary_kind, unknown, expr_faults, operand_faults, primary_faults, needed_faults}
+use Rattle.fut_rules.specs.declared.kind.Kind.{Kind}
+use Rattle.fut_rules.specs.declared.kind.Kind.TheVariants as kind
+use Rattle.fut_rules.specs.declared.kind.Need.{Need}
+use Rattle.fut_rules.specs.declared.kind.Need.TheVariants as need
+use Rattle.fut_rules.specs.declared.names.Variable.{Variable}
+use Rattle.fut_rules.specs.Faults.{broken}
+use Rattle.fut_rules.specs.Kinds.{plain, kind_of, argument_need, init_need, need_rule, unmet}
+use Rattle.fut_rules.specs.Names.{kind_named}
+use Rattle.fut_rules.specs.Exprs.{expr_kind, operand_kind, primary_kind, unknown, expr_faults, operand_faults, primary_faults, needed_faults}
 use Rattle.task_machine.specs.Variables.{Slot, One, Many, Variables, slot_at, value_of, filled, slot_in, operand_in, primary_in}
 use Rattle.task_types.specs.Typed.{Fits, HasKind}
 use Rattle.task_types.proofs.Slots.{by_bool, no_some, nil_left, nil_right, unbroken, word_is, all_replicate}

@@ -5,9 +5,9 @@ use Rattle.fut_base.specs.declared.record.Value.TheVariants.{Int, Fut}
 use Rattle.fut_base.specs.declared.event.Action.{Action}
 use Rattle.fut_base.specs.declared.event.Action.TheVariants.{Reads, Writes, Spawns, Creates, Syncs, Gets, Ends}
 use Rattle.fut_syntax.specs.Trees as tree
-use Rattle.fut_check.specs.declared.kind.Kind.{Kind}
-use Rattle.fut_check.specs.declared.kind.Kind.TheVariants as kind
-use Rattle.fut_check.specs.Kinds.{kind_of}
+use Rattle.fut_rules.specs.declared.kind.Kind.{Kind}
+use Rattle.fut_rules.specs.declared.kind.Kind.TheVariants as kind
+use Rattle.fut_rules.specs.Kinds.{kind_of}
 use Rattle.task_machine.specs.Variables.{Slot, One, Many}
 use Rattle.task_machine.specs.State.{TaskState}
 use Rattle.task_types.specs.Typed.{Fits, AllFit, HasKind, ParamsFit, slot_of, ArgsFit, ActionFits, IsTypedState}

@@ -2,10 +2,10 @@
 use Rattle.std.proofs.Common.{◌≡◌, ℕ, suc, ◌+◌, Bool, true, false, not, ◌&&◌, ◌||◌, List, [], ◌∷◌, ◌++◌, refl, sym, ap, ◌∙◌, subst, arith}
 use Rattle.std.specs.Prelude.{Some, bytes_eq, codes, nat_eq, slice_get, unwrap_or}
 use Rattle.fut_syntax.specs.Trees as tree
-use Rattle.fut_check.specs.declared.fault.Rule.TheVariants as rule
-use Rattle.fut_check.specs.Faults.{fault_if}
-use Rattle.fut_check.specs.Names.{declares, tasks, is_main, has_main}
-use Rattle.fut_check.specs.Widths.{params_width, item_width}
+use Rattle.fut_rules.specs.declared.fault.Rule.TheVariants as rule
+use Rattle.fut_rules.specs.Faults.{fault_if}
+use Rattle.fut_rules.specs.Names.{declares, tasks, is_main, has_main}
+use Rattle.fut_rules.specs.Widths.{params_width, item_width}
 use Rattle.fut_check.specs.Items.{items_of, has_params, params_faults, head_faults, body_faults, opening_scope, item_faults, items_faults, IsWellTyped}
 use Rattle.fut_check.specs.Stmts.{depth_faults}
 use Rattle.task_machine.specs.Texts.{tasks_from, number_from, main_of}

@@ -5,13 +5,13 @@ use Rattle.fut_base.specs.declared.record.Value.{Value}
 use Rattle.fut_base.specs.declared.record.Value.TheVariants.{Int}
 use Rattle.fut_base.specs.Dag.{Among}
 use Rattle.fut_syntax.specs.Trees as tree
-use Rattle.fut_check.specs.declared.kind.Kind.{Kind}
-use Rattle.fut_check.specs.declared.kind.Kind.TheVariants as kind
-use Rattle.fut_check.specs.declared.names.Variable.{Variable}
-use Rattle.fut_check.specs.Faults.{broken}
-use Rattle.fut_check.specs.Kinds.{kind_of, plain, init_need, unmet}
-use Rattle.fut_check.specs.Names.{Scope, declares, declaration, means_cells, kind_named, variable, element, element_rule}
-use Rattle.fut_check.specs.Inits.{init_kind, inner_faults, init_faults}
+use Rattle.fut_rules.specs.declared.kind.Kind.{Kind}
+use Rattle.fut_rules.specs.declared.kind.Kind.TheVariants as kind
+use Rattle.fut_rules.specs.declared.names.Variable.{Variable}
+use Rattle.fut_rules.specs.Faults.{broken}
+use Rattle.fut_rules.specs.Kinds.{kind_of, plain, init_need, unmet}
+use Rattle.fut_rules.specs.Names.{Scope, declares, declaration, means_cells, kind_named, variable, element, element_rule}
+use Rattle.fut_rules.specs.Inits.{init_kind, inner_faults, init_faults}
 use Rattle.fut_check.specs.Stmts.{assigned_rule, value_need, shown, is_return}
 use Rattle.fut_check.specs.Items.{items_of}
 use Rattle.task_machine.specs.Values.{index_of}
@@ -159,7 +159,7 @@ before_bracket globals vis w n None false e m f = absurd (no_some _ _ refl (unbr
 declared_cells : (items : List tree.Item) (w : List ℕ) → means_cells (declaration items w) ≡ true → declares items w ≡ true
 declared_cells [] w h = absurd (let e : false ≡ true = h in cc)
 declared_cells (i ∷ rest) w h =
-    by_bool (λ b. means_cells (cond b (Some i) (declaration rest w)) ≡ true → Rattle.std.proofs.Common.◌||◌ b (declares rest w) ≡ true) (bytes_eq (Rattle.fut_check.specs.Names.item_name i) w)
+    by_bool (λ b. means_cells (cond b (Some i) (declaration rest w)) ≡ true → Rattle.std.proofs.Common.◌||◌ b (declares rest w) ≡ true) (bytes_eq (Rattle.fut_rules.specs.Names.item_name i) w)
     (λ t. λ e. refl) (λ f. λ e. declared_cells rest w e) h
 
 -- a word that is no visible variable and names cells holds 0, as an unknown name

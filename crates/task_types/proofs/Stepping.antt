@@ -5,16 +5,16 @@ use Rattle.fut_base.specs.declared.record.Value.{Value}
 use Rattle.fut_base.specs.declared.record.Value.TheVariants.{Int}
 use Rattle.fut_base.specs.Dag.{Among}
 use Rattle.fut_syntax.specs.Trees as tree
-use Rattle.fut_check.specs.declared.kind.Kind.{Kind}
-use Rattle.fut_check.specs.declared.kind.Kind.TheVariants as kind
-use Rattle.fut_check.specs.declared.fault.Rule.TheVariants as rule
-use Rattle.fut_check.specs.declared.names.Variable.{Variable}
-use Rattle.fut_check.specs.Faults.{broken, fault_if}
-use Rattle.fut_check.specs.Kinds.{kind_of, plain, init_need, unmet}
-use Rattle.fut_check.specs.Names.{declaration, means_cells, kind_named, variable, element, element_rule}
-use Rattle.fut_check.specs.Exprs.{needed_faults, for_int}
-use Rattle.fut_check.specs.Inits.{init_kind, inner_faults, init_faults}
-use Rattle.fut_check.specs.Widths.{expr_width, type_width, block_width}
+use Rattle.fut_rules.specs.declared.kind.Kind.{Kind}
+use Rattle.fut_rules.specs.declared.kind.Kind.TheVariants as kind
+use Rattle.fut_rules.specs.declared.fault.Rule.TheVariants as rule
+use Rattle.fut_rules.specs.declared.names.Variable.{Variable}
+use Rattle.fut_rules.specs.Faults.{broken, fault_if}
+use Rattle.fut_rules.specs.Kinds.{kind_of, plain, init_need, unmet}
+use Rattle.fut_rules.specs.Names.{declaration, means_cells, kind_named, variable, element, element_rule}
+use Rattle.fut_rules.specs.Exprs.{needed_faults, for_int}
+use Rattle.fut_rules.specs.Inits.{init_kind, inner_faults, init_faults}
+use Rattle.fut_rules.specs.Widths.{expr_width, type_width, block_width}
 use Rattle.fut_check.specs.Stmts.{declared_faults, type_faults, is_handle, assigned_rule, value_need, shown, declared_in_block, declared_in_tail, stmt_faults, is_return, with_declared}
 use Rattle.fut_check.specs.Items.{items_of, IsWellTyped}
 use Rattle.task_machine.specs.Values.{index_of, is_zero}
@@ -164,7 +164,7 @@ branch : (gives : ℕ → ℕ → Bool) (P : tree.Program) (which : ℕ) (t : Te
 branch gives P which t known s front rest is k a b r =
     made gives P which t known (goes_on s (front ++ rest) s.vars) is k (all_append (items_of P) t known front rest a b) (λ ne. returns_append front rest (r ne))
 
-else_none : (globals : List tree.Item) (t : Text) (scope : Rattle.fut_check.specs.Names.Scope) (n : ℕ) (known : List Variable) (o : tree.Tail) → scope.returns ≡ t.depth → AllAmong scope.visible known → AllAmong (declared_in_tail o) (variables_of t) → Rattle.fut_check.specs.Stmts.tail_faults globals scope n o ≡ [] → AllBreakNone globals t known (else_of o)
+else_none : (globals : List tree.Item) (t : Text) (scope : Rattle.fut_rules.specs.Names.Scope) (n : ℕ) (known : List Variable) (o : tree.Tail) → scope.returns ≡ t.depth → AllAmong scope.visible known → AllAmong (declared_in_tail o) (variables_of t) → Rattle.fut_check.specs.Stmts.tail_faults globals scope n o ≡ [] → AllBreakNone globals t known (else_of o)
 else_none globals t scope n known tree.NoElse r v d f = tt
 else_none globals t scope n known (tree.ElseOf b) r v d f = block_none globals t scope (n + 2) known b r v d f
 

@@ -4,16 +4,16 @@ use Rattle.std.specs.Prelude.{Some, bytes_eq, nat_eq, nat_lt, slice_get}
 use Rattle.std.proofs.lemmas.Bool.{not-false}
 use Rattle.fut_base.specs.Dag.{Among}
 use Rattle.fut_syntax.specs.Trees as tree
-use Rattle.fut_check.specs.declared.kind.Kind.{Kind}
-use Rattle.fut_check.specs.declared.kind.Kind.TheVariants as kind
-use Rattle.fut_check.specs.declared.fault.Rule.TheVariants as rule
-use Rattle.fut_check.specs.declared.names.Variable.{Variable}
-use Rattle.fut_check.specs.Faults.{fault_if}
-use Rattle.fut_check.specs.Kinds.{kind_of, size, plain, init_need}
-use Rattle.fut_check.specs.Names.{Scope, declares, is_named, slots, variable, tasks, is_main}
-use Rattle.fut_check.specs.Exprs.{needed_faults, for_int}
-use Rattle.fut_check.specs.Inits.{init_faults}
-use Rattle.fut_check.specs.Widths.{expr_width, type_width, stmt_width, block_width, param_width, params_width, item_width}
+use Rattle.fut_rules.specs.declared.kind.Kind.{Kind}
+use Rattle.fut_rules.specs.declared.kind.Kind.TheVariants as kind
+use Rattle.fut_rules.specs.declared.fault.Rule.TheVariants as rule
+use Rattle.fut_rules.specs.declared.names.Variable.{Variable}
+use Rattle.fut_rules.specs.Faults.{fault_if}
+use Rattle.fut_rules.specs.Kinds.{kind_of, size, plain, init_need}
+use Rattle.fut_rules.specs.Names.{Scope, declares, is_named, slots, variable, tasks, is_main}
+use Rattle.fut_rules.specs.Exprs.{needed_faults, for_int}
+use Rattle.fut_rules.specs.Inits.{init_faults}
+use Rattle.fut_rules.specs.Widths.{expr_width, type_width, stmt_width, block_width, param_width, params_width, item_width}
 use Rattle.fut_check.specs.Stmts.{type_faults, depth_faults, is_bad_length, is_doubled, declared_faults, is_handle, shown, declared_in, declared_in_block, declared_in_tail, with_declared, scope_after, stmt_faults, block_faults, tail_faults, is_return, ends_with, ends_with_return}
 use Rattle.fut_check.specs.Items.{items_of, param_variable, param_variables, is_over, param_faults, params_faults, has_params, opening_scope, body_faults, head_faults, item_faults, items_faults, IsWellTyped}
 use Rattle.task_machine.specs.Texts.{stmts_of}

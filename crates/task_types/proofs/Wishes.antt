@@ -5,15 +5,15 @@ use Rattle.fut_base.specs.declared.record.Value.{Value}
 use Rattle.fut_base.specs.declared.record.Value.TheVariants.{Int}
 use Rattle.fut_base.specs.Dag.{Among}
 use Rattle.fut_syntax.specs.Trees as tree
-use Rattle.fut_check.specs.declared.kind.Kind.{Kind}
-use Rattle.fut_check.specs.declared.kind.Kind.TheVariants as kind
-use Rattle.fut_check.specs.declared.fault.Rule.TheVariants as rule
-use Rattle.fut_check.specs.declared.names.Variable.{Variable}
-use Rattle.fut_check.specs.Faults.{broken}
-use Rattle.fut_check.specs.Kinds.{result_rule}
-use Rattle.fut_check.specs.Exprs.{expr_kind, expr_faults}
+use Rattle.fut_rules.specs.declared.kind.Kind.{Kind}
+use Rattle.fut_rules.specs.declared.kind.Kind.TheVariants as kind
+use Rattle.fut_rules.specs.declared.fault.Rule.TheVariants as rule
+use Rattle.fut_rules.specs.declared.names.Variable.{Variable}
+use Rattle.fut_rules.specs.Faults.{broken}
+use Rattle.fut_rules.specs.Kinds.{result_rule}
+use Rattle.fut_rules.specs.Exprs.{expr_kind, expr_faults}
 use Rattle.fut_check.specs.Items.{IsWellTyped}
-use Rattle.fut_check.specs.Widths.{type_width}
+use Rattle.fut_rules.specs.Widths.{type_width}
 use Rattle.task_machine.specs.Variables.{Slot, One, Many, Variables, value_of, slot_in, value_in, number_in, values_in}
 use Rattle.task_machine.specs.State.{TaskState, ToRead, ToWrite, ToSpawn, ToCreate, ToSync, ToGet, ToEnd, NoWish, local_value, first_step, local_step, write_of, spawn_of, end_of, wish_of_init, first_wish, wish_of}
 use Rattle.task_types.specs.Typed.{Text, text_at, variables_of, Fits, HasKind, ArgsFit, EndsWithReturn, IsTypedState, got_word, got_by, GetsDepth}

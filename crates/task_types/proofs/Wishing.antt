@@ -7,15 +7,15 @@ use Rattle.fut_base.specs.declared.event.Action.{Action}
 use Rattle.fut_base.specs.declared.event.Action.TheVariants.{Reads, Writes, Spawns, Creates, Syncs, Gets, Ends}
 use Rattle.fut_base.specs.Dag.{Among, ends}
 use Rattle.fut_syntax.specs.Trees as tree
-use Rattle.fut_check.specs.declared.kind.Kind.{Kind}
-use Rattle.fut_check.specs.declared.kind.Kind.TheVariants as kind
-use Rattle.fut_check.specs.declared.names.Variable.{Variable}
-use Rattle.fut_check.specs.Faults.{broken}
-use Rattle.fut_check.specs.Kinds.{plain, unmet, init_need, kind_of}
-use Rattle.fut_check.specs.Names.{declaration, means_cells, kind_named, element, element_rule}
-use Rattle.fut_check.specs.Exprs.{needed_faults, for_int}
-use Rattle.fut_check.specs.Inits.{get_rule, got_of, created, init_kind, inner_faults}
-use Rattle.fut_check.specs.Widths.{expr_width, type_width}
+use Rattle.fut_rules.specs.declared.kind.Kind.{Kind}
+use Rattle.fut_rules.specs.declared.kind.Kind.TheVariants as kind
+use Rattle.fut_rules.specs.declared.names.Variable.{Variable}
+use Rattle.fut_rules.specs.Faults.{broken}
+use Rattle.fut_rules.specs.Kinds.{plain, unmet, init_need, kind_of}
+use Rattle.fut_rules.specs.Names.{declaration, means_cells, kind_named, element, element_rule}
+use Rattle.fut_rules.specs.Exprs.{needed_faults, for_int}
+use Rattle.fut_rules.specs.Inits.{get_rule, got_of, created, init_kind, inner_faults}
+use Rattle.fut_rules.specs.Widths.{expr_width, type_width}
 use Rattle.fut_check.specs.Stmts.{value_need, shown, is_return}
 use Rattle.fut_check.specs.Items.{items_of, IsWellTyped}
 use Rattle.task_machine.specs.Variables.{Slot, One, Many, Variables, slot_at, value_of, value_in, number_in, values_in}

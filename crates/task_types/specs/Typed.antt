@@ -6,11 +6,11 @@ use Rattle.fut_base.specs.declared.event.Action.{Action}
 use Rattle.fut_base.specs.declared.event.Action.TheVariants.{Reads, Writes, Spawns, Creates, Syncs, Gets, Ends}
 use Rattle.fut_base.specs.Dag.{Among}
 use Rattle.fut_syntax.specs.Trees as tree
-use Rattle.fut_check.specs.declared.kind.Kind.{Kind}
-use Rattle.fut_check.specs.declared.kind.Kind.TheVariants as kind
-use Rattle.fut_check.specs.declared.names.Variable.{Variable}
-use Rattle.fut_check.specs.Kinds.{kind_of, size}
-use Rattle.fut_check.specs.Names.{Scope, declares}
+use Rattle.fut_rules.specs.declared.kind.Kind.{Kind}
+use Rattle.fut_rules.specs.declared.kind.Kind.TheVariants as kind
+use Rattle.fut_rules.specs.declared.names.Variable.{Variable}
+use Rattle.fut_rules.specs.Kinds.{kind_of, size}
+use Rattle.fut_rules.specs.Names.{Scope, declares}
 use Rattle.fut_check.specs.Items.{items_of, param_variables}
 use Rattle.fut_check.specs.Stmts.{stmt_faults, declared_in, declared_in_block, shown, is_return}
 use Rattle.task_machine.specs.Variables.{Slot, One, Many, slot_at}

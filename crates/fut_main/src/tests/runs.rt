@@ -289,6 +289,12 @@ fn answers_of_check(rt: HostRuntime) -> Result<(), Fail> {
         ),
         ("cells a[0]; task main() int { return 0; }", "type 12 1:9\n"),
         ("task f() int { return 0; }", "type 9 1:27\n"),
+        // a program cut after so many bytes
+        ("tas", "syntax 1:1\n"),
+        ("task", "syntax 1:5\n"),
+        ("task main", "syntax 1:10\n"),
+        ("task main() in", "syntax 1:13\n"),
+        ("task main() int { return 0; ", "syntax 1:29\n"),
     ];
     for (text, answer) in cases {
         let given = ask(rt.alloc(), &CHECK, text.as_bytes())?;

@@ -1,6 +1,6 @@
 use Rattle.std.proofs.Common.{◌≡◌, drop}
 use Rattle.fut_syntax.specs.Views.{items_tree}
-use Rattle.fut_check.specs.Names.{has_main}
+use Rattle.fut_rules.specs.Names.{has_main}
 use Rattle.fut_check.proofs.items.has_main.Given as goal
 
 abbrev pub invariant-loop-item : goal.invariant-loop-item

@@ -1,6 +1,6 @@
 use Rattle.std.proofs.Common.{arith}
 use Rattle.fut_syntax.specs.Views.{block_tree, items_tree}
-use Rattle.fut_check.proofs.Least.{walked_both, walked_past, walked_as}
+use Rattle.fut_rules.proofs.Least.{walked_both, walked_past, walked_as}
 use Rattle.fut_check.proofs.Statements.{body_faults_are}
 use Rattle.fut_check.proofs.items.walk_body.Goals as goal
 

@@ -1,8 +1,8 @@
 use Rattle.std.proofs.Common.{◌≡◌, ◌+◌, ◌++◌, drop, length, nat_eq}
 use Rattle.fut_syntax.specs.Views.{items_tree, params_tree}
-use Rattle.fut_check.specs.Faults.{least}
+use Rattle.fut_rules.specs.Faults.{least}
 use Rattle.fut_check.specs.Items.{params_faults, param_variables}
-use Rattle.fut_check.specs.Widths.{each_param_width}
+use Rattle.fut_rules.specs.Widths.{each_param_width}
 use Rattle.fut_check.proofs.items.walk_each_param.Given as goal
 
 abbrev pub invariant-loop-param : goal.invariant-loop-param

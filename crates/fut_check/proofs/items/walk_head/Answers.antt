@@ -1,8 +1,8 @@
 use Rattle.std.proofs.Common.{ap, ◌∙◌, arith}
 use Rattle.fut_syntax.specs.Views.{params_tree, items_tree}
-use Rattle.fut_check.specs.Names.{Scope}
+use Rattle.fut_rules.specs.Names.{Scope}
 use Rattle.fut_check.specs.Items.{with_params}
-use Rattle.fut_check.proofs.Least.{walked_both, walked_past, past_walked, walked_as}
+use Rattle.fut_rules.proofs.Least.{walked_both, walked_past, past_walked, walked_as}
 use Rattle.fut_check.proofs.Statements.{head_faults_are}
 use Rattle.fut_check.proofs.items.walk_head.Goals as goal
 

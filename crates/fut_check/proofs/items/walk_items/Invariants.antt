@@ -1,9 +1,9 @@
 use Rattle.std.proofs.Common.{◌≡◌, ◌+◌, ◌≤◌, [], take, drop}
 use Rattle.fut_syntax.specs.Views.{items_tree}
-use Rattle.fut_check.specs.Faults.{least}
+use Rattle.fut_rules.specs.Faults.{least}
 use Rattle.fut_check.specs.Counts.{AreCounts}
 use Rattle.fut_check.specs.Items.{items_faults}
-use Rattle.fut_check.specs.Widths.{items_width}
+use Rattle.fut_rules.specs.Widths.{items_width}
 use Rattle.fut_check.proofs.items.walk_items.Given as goal
 
 abbrev pub invariant-loop-place : goal.invariant-loop-place

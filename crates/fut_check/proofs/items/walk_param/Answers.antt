@@ -1,6 +1,6 @@
 use Rattle.std.proofs.Common.{arith}
 use Rattle.fut_syntax.specs.Views.{param_tree, items_tree}
-use Rattle.fut_check.proofs.Least.{walked_both, walked_past, past_walked, walked_as}
+use Rattle.fut_rules.proofs.Least.{walked_both, walked_past, past_walked, walked_as}
 use Rattle.fut_check.proofs.Statements.{param_faults_are}
 use Rattle.fut_check.proofs.items.walk_param.Goals as goal
 

@@ -1,8 +1,8 @@
 use Rattle.std.proofs.Common.{◌≡◌, ◌+◌, ◌<◌, None, length, sym, ap, ◌∙◌, arith}
 use Rattle.std.specs.Prelude.{slice_get}
 use Rattle.std.proofs.lemmas.Option.{slice_get-get_or}
-use Rattle.fut_syntax.specs.declared.token.Place.{Place}
-use Rattle.fut_check.specs.Faults.{Searched, least}
+use Rattle.fut_tokens.specs.declared.token.Place.{Place}
+use Rattle.fut_rules.specs.Faults.{Searched, least}
 use Rattle.fut_check.specs.Items.{faults_of}
 use Rattle.fut_check.proofs.Wholes.{items_fit, found_in, is_checked, fault_of}
 use Rattle.fut_check.proofs.program.check.Goals as goal

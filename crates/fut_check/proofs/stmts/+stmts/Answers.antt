@@ -4,13 +4,13 @@ use Rattle.fut_syntax.specs.declared.tree.Tail.{Tail, Else}
 use Rattle.fut_syntax.specs.Trees as trees
 use Rattle.fut_syntax.specs.Views.{expr_tree, stmt_tree, block_tree, tail_tree, items_tree}
 use Rattle.fut_syntax.proofs.Made.{if_tree, while_tree, else_tree}
-use Rattle.fut_check.specs.Faults.{least}
-use Rattle.fut_check.specs.Names.{Scope}
+use Rattle.fut_rules.specs.Faults.{least}
+use Rattle.fut_rules.specs.Names.{Scope}
 use Rattle.fut_check.specs.Passing.{Passed}
 use Rattle.fut_check.specs.Stmts.{stmt_faults, block_faults, tail_faults, scope_after, with_declared, declared_in_block, declared_in_tail}
-use Rattle.fut_check.specs.Widths.{stmt_width, block_width, tail_width}
+use Rattle.fut_rules.specs.Widths.{stmt_width, block_width, tail_width}
 use Rattle.fut_check.proofs.Bodies.{if_passed, while_passed, else_passed, block_step, declared_step, visible_step, count_step}
-use Rattle.fut_check.proofs.Drops.{dropped}
+use Rattle.fut_rules.proofs.Drops.{dropped}
 use Rattle.fut_check.proofs.stmts.+stmts.Goals as goal
 
 pub walk_stmt-walk_block-requires : goal.walk_stmt-walk_block-requires

@@ -1,8 +1,8 @@
 use Rattle.std.proofs.Common.{◌≡◌, ◌+◌, ◌≤◌, ◌++◌, length, take, drop}
 use Rattle.fut_syntax.specs.Views.{items_tree, block_tree}
-use Rattle.fut_check.specs.Faults.{least}
+use Rattle.fut_rules.specs.Faults.{least}
 use Rattle.fut_check.specs.Stmts.{block_faults, declared_in_block}
-use Rattle.fut_check.specs.Widths.{block_width}
+use Rattle.fut_rules.specs.Widths.{block_width}
 use Rattle.fut_check.proofs.stmts.+stmts.Given as goal
 
 abbrev pub invariant-walk_block-loop-stmt : goal.invariant-walk_block-loop-stmt

@@ -1,6 +1,6 @@
 use Rattle.std.proofs.Common.{arith}
 use Rattle.fut_syntax.specs.Views.{init_tree, items_tree}
-use Rattle.fut_check.proofs.Least.{walked_both, walked_past, past_walked, walked_as}
+use Rattle.fut_rules.proofs.Least.{walked_both, walked_past, past_walked, walked_as}
 use Rattle.fut_check.proofs.Statements.{assign_faults}
 use Rattle.fut_check.proofs.stmts.walk_assign.Goals as goal
 

@@ -1,6 +1,6 @@
 use Rattle.std.proofs.Common.{arith}
 use Rattle.fut_syntax.specs.Views.{type_tree, init_tree, items_tree}
-use Rattle.fut_check.proofs.Least.{walked_both, walked_past, past_walked, walked_as}
+use Rattle.fut_rules.proofs.Least.{walked_both, walked_past, past_walked, walked_as}
 use Rattle.fut_check.proofs.Statements.{define_faults}
 use Rattle.fut_check.proofs.stmts.walk_define.Goals as goal
 

@@ -1,6 +1,6 @@
 use Rattle.std.proofs.Common.{arith}
 use Rattle.fut_syntax.specs.Views.{expr_tree, items_tree}
-use Rattle.fut_check.proofs.Least.{walked_both, walked_past, past_walked, walked_as}
+use Rattle.fut_rules.proofs.Least.{walked_both, walked_past, past_walked, walked_as}
 use Rattle.fut_check.proofs.Statements.{store_faults}
 use Rattle.fut_check.proofs.stmts.walk_store.Goals as goal
 

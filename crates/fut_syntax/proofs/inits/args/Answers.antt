@@ -1,6 +1,6 @@
 use Rattle.std.proofs.Common.{◌≡◌, ◌+◌, ◌-◌, List, [], ◌∷◌, refl, sym, ap, ◌∙◌, append-nil, arith}
 use Rattle.std.proofs.lemmas.Result.{err_from_is_err_and}
-use Rattle.fut_syntax.specs.declared.token.Token.TheVariants as t
+use Rattle.fut_tokens.specs.declared.token.Token.TheVariants as t
 use Rattle.fut_syntax.specs.Trees.{Expr}
 use Rattle.fut_syntax.specs.Tokens.{args_before}
 use Rattle.fut_syntax.specs.Views.{expr_tree, args_tree}

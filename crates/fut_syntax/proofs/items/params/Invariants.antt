@@ -1,5 +1,5 @@
 use Rattle.std.proofs.Common.{◌≡◌, ◌++◌, List, [], ◌∷◌, length}
-use Rattle.fut_syntax.specs.declared.token.Token.{Token}
+use Rattle.fut_tokens.specs.declared.token.Token.{Token}
 use Rattle.fut_syntax.specs.Trees.{Param}
 use Rattle.fut_syntax.specs.Tokens.{params_before, more_params_before}
 use Rattle.fut_syntax.specs.Views.{params_tree}

@@ -1,6 +1,6 @@
 use Rattle.std.proofs.Common.{◌≡◌, List, [], ◌∷◌, subst}
 use Rattle.std.specs.Prelude.{Some}
-use Rattle.fut_syntax.specs.declared.token.Token.{Token}
+use Rattle.fut_tokens.specs.declared.token.Token.{Token}
 use Rattle.fut_syntax.specs.declared.cursor.Stop.{Stop}
 use Rattle.fut_syntax.specs.Trees.{Program}
 use Rattle.fut_syntax.specs.Views.{program_tree}

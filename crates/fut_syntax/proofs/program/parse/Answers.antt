@@ -1,9 +1,9 @@
 use Rattle.std.proofs.Common.{◌≡◌, ℕ, ◌-◌, List, ◌∷◌, length, get_or, ◌∙◌, ap, subst, arith, length-append, refl}
 use Rattle.std.proofs.lemmas.Option.{slice_get_read}
-use Rattle.fut_syntax.specs.declared.token.Token.{Token}
-use Rattle.fut_syntax.specs.declared.token.Place.{Place}
+use Rattle.fut_tokens.specs.declared.token.Token.{Token}
+use Rattle.fut_tokens.specs.declared.token.Place.{Place}
 use Rattle.fut_syntax.specs.Faults.{IsFault}
-use Rattle.fut_syntax.specs.Lexed.{IsTokensOf}
+use Rattle.fut_tokens.specs.Lexed.{IsTokensOf}
 use Rattle.fut_syntax.specs.Texts.{IsFaultPlace}
 use Rattle.fut_syntax.proofs.program.parse.Goals as goal
 

@@ -1,5 +1,5 @@
 use Rattle.std.proofs.Common.{◌-◌, [], ◌∷◌, refl, sym, ap, ◌∙◌, arith}
-use Rattle.fut_syntax.specs.declared.token.Token.TheVariants as t
+use Rattle.fut_tokens.specs.declared.token.Token.TheVariants as t
 use Rattle.fut_syntax.specs.Machine.{Type'}
 use Rattle.fut_syntax.proofs.Chains.{seen, takes}
 use Rattle.fut_syntax.proofs.Counted.{fut_more, fewer_left, int_last}

@@ -1,5 +1,5 @@
 use Rattle.std.proofs.Common.{◌≡◌, ℕ, ◌+◌, ◌-◌, ◌≤◌, List, ◌∷◌, length}
-use Rattle.fut_syntax.specs.declared.token.Token.{Token}
+use Rattle.fut_tokens.specs.declared.token.Token.{Token}
 use Rattle.fut_syntax.specs.Tokens.{type_before}
 use Rattle.fut_syntax.specs.Steps.{behind}
 use Rattle.fut_syntax.specs.Machine.{Symbol, Type', run64}

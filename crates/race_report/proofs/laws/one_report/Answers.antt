@@ -1,4 +1,4 @@
-use Rattle.race_report.proofs.Reports.{one_report}
+use Rattle.fut_base.proofs.Reports.{one_report}
 use Rattle.race_report.proofs.laws.one_report.Goals as goal
 
 pub returns : goal.returns

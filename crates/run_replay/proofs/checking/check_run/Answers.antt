@@ -4,7 +4,7 @@ use Rattle.fut_base.specs.Events.{event_of, events_of}
 use Rattle.task_machine.specs.Machine.{Machine}
 use Rattle.run_replay.specs.Replays.{IsReplayOf}
 use Rattle.run_replay.proofs.Checked.{others_by}
-use Rattle.run_replay.proofs.Reports.{one_report}
+use Rattle.fut_base.proofs.Reports.{one_report}
 use Rattle.run_replay.proofs.checking.check_run.Goals as goal
 
 pub returns-then-not-same_races : goal.returns-then-not-same_races

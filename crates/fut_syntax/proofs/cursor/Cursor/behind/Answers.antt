@@ -1,5 +1,5 @@
 use Rattle.std.proofs.Common.{◌≡◌, ◌-◌, List, length, subst, arith}
-use Rattle.fut_syntax.specs.declared.token.Token.{Token}
+use Rattle.fut_tokens.specs.declared.token.Token.{Token}
 use Rattle.fut_syntax.specs.Steps.{behind}
 use Rattle.fut_syntax.proofs.Cursors.{length_behind}
 use Rattle.fut_syntax.proofs.cursor.Cursor.behind.Goals as goal

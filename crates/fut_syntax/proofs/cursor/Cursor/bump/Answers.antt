@@ -1,7 +1,7 @@
 use Rattle.std.proofs.Common.{◌≡◌, List, subst, sym, drop, false}
-use Rattle.fut_syntax.specs.declared.token.Token.{Token}
+use Rattle.fut_tokens.specs.declared.token.Token.{Token}
 use Rattle.fut_syntax.specs.Steps.{is_end, front}
-use Rattle.fut_syntax.specs.Ended.{IsEnded}
+use Rattle.fut_tokens.specs.Ended.{IsEnded}
 use Rattle.fut_syntax.proofs.Cursors.{drop_behind, ended_behind}
 use Rattle.fut_syntax.proofs.cursor.Cursor.bump.Goals as goal
 

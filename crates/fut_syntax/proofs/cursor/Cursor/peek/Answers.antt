@@ -1,5 +1,5 @@
 use Rattle.std.proofs.Common.{◌≡◌, List, [], ◌∷◌, subst}
-use Rattle.fut_syntax.specs.declared.token.Token.{Token}
+use Rattle.fut_tokens.specs.declared.token.Token.{Token}
 use Rattle.fut_syntax.specs.Steps.{behind}
 use Rattle.fut_syntax.proofs.Cursors.{in_view, peek_last}
 use Rattle.fut_syntax.proofs.cursor.Cursor.peek.Goals as goal

@@ -1,0 +1,5 @@
+pub mod Args
+pub mod Drops
+pub mod Least
+pub mod Slots
+pub mod Some

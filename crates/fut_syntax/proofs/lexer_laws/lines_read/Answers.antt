@@ -1,5 +1,0 @@
-use Rattle.fut_syntax.proofs.Spacing.{lines_read}
-use Rattle.fut_syntax.proofs.lexer_laws.lines_read.Goals as goal
-
-pub returns : goal.returns
-returns c = lines_read

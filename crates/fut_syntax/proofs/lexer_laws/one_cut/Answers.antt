@@ -1,5 +1,0 @@
-use Rattle.fut_syntax.proofs.Cuts.{cut_once}
-use Rattle.fut_syntax.proofs.lexer_laws.one_cut.Goals as goal
-
-pub returns : goal.returns
-returns c = λ bytes ps qs. cut_once ps qs bytes

@@ -1,5 +1,0 @@
-use Rattle.fut_syntax.proofs.Spacing.{respaced_reads}
-use Rattle.fut_syntax.proofs.lexer_laws.respaced_reads.Goals as goal
-
-pub returns : goal.returns
-returns c = respaced_reads

@@ -1,5 +1,0 @@
-use Rattle.fut_syntax.proofs.Spacing.{spaced_reads}
-use Rattle.fut_syntax.proofs.lexer_laws.spaced_reads.Goals as goal
-
-pub returns : goal.returns
-returns c = spaced_reads

@@ -1,0 +1,12 @@
+pub mod Begun
+pub mod Cuts
+pub mod Every
+pub mod Fronts
+pub mod Longest
+pub mod Never
+pub mod Places
+pub mod Spacing
+pub mod Spelled
+pub mod Tables
+pub mod Tests
+pub mod Values
