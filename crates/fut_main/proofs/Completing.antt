@@ -18,14 +18,15 @@ use Rattle.task_machine.specs.Machine.{opening, IsStep, Leads}
 use Rattle.task_machine.proofs.Leading.{leads_to_one, split}
 use Rattle.run_record.specs.Records.{IsFault}
 use Rattle.run_record.proofs.Onces.{one_value}
-use Rattle.run_replay.specs.Checks.{IsAccepted, IsRefusedAt}
+use Rattle.run_check.specs.Checks.{IsAccepted, IsRefusedAt}
 use Rattle.fut_main.specs.declared.status.Status.{Status}
 use Rattle.fut_main.specs.declared.status.Status.TheVariants as status
-use Rattle.fut_main.specs.declared.words.Command.{Command}
-use Rattle.fut_main.specs.declared.words.Command.TheVariants as command
-use Rattle.fut_main.specs.Asking.{Asked, Asks, AreWordsOf, most_bytes}
+use Rattle.command_words.specs.declared.words.Command.{Command}
+use Rattle.command_words.specs.declared.words.Command.TheVariants as command
+use Rattle.command_words.specs.Asking.{AreWordsOf, most_bytes}
+use Rattle.fut_main.specs.Given.{Asked, Asks}
 use Rattle.fut_main.specs.Verdict.{Told, IsRead, IsWellTypedText, IsIllTypedText, IsRefusedRecord, GaveTooMuch, IsGiven, IsOfHistory, IsVerdict, IsFit, IsUnhindered, AsksHistory, IsFree}
-use Rattle.fut_main.proofs.Wording.{same_head, check_replay, serial_replay, run_replay}
+use Rattle.command_words.proofs.Wording.{same_head, check_replay, serial_replay, run_replay}
 
 -- ---- what was read
 

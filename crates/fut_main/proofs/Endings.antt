@@ -15,14 +15,15 @@ use Rattle.fut_check.specs.Checks.{HasPlaces, IsFaultOf}
 use Rattle.task_code.specs.Flat.{Compiled, IsCodeOf}
 use Rattle.run_record.specs.Records.{IsFault}
 use Rattle.run_replay.specs.Serials.{IsSerialRun}
-use Rattle.run_replay.specs.Checks.{IsAccepted}
+use Rattle.run_check.specs.Checks.{IsAccepted}
 use Rattle.fut_main.specs.declared.status.Status.{Status}
 use Rattle.fut_main.specs.declared.status.Status.TheVariants as status
 use Rattle.fut_main.specs.declared.program.Refusal.{Refusal}
 use Rattle.fut_main.specs.declared.program.Refusal.TheVariants as refusal
-use Rattle.fut_main.specs.declared.words.Command.{Command}
-use Rattle.fut_main.specs.declared.words.Command.TheVariants as command
-use Rattle.fut_main.specs.Asking.{Asked, Asks, AreWordsOf}
+use Rattle.command_words.specs.declared.words.Command.{Command}
+use Rattle.command_words.specs.declared.words.Command.TheVariants as command
+use Rattle.command_words.specs.Asking.{AreWordsOf}
+use Rattle.fut_main.specs.Given.{Asked, Asks}
 use Rattle.fut_main.specs.Due.{due_text, run_due, legal_text}
 use Rattle.fut_main.specs.Outcomes.{ending_of, status_of, IsOfTree, IsRefused, RanAs, IsOutcome}
 use Rattle.fut_main.specs.Verdict.{IsRead, IsWellTypedText, IsIllTypedText, Says, limits_of, IsOfHistory, IsRecordOf, IsGiven, IsVerdict}

@@ -1,5 +1,3 @@
-pub mod Choosing
 pub mod Completing
 pub mod Consuming
 pub mod Endings
-pub mod Wording

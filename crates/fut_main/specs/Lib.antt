@@ -1,7 +1,6 @@
-pub mod Asking
 pub mod Due
+pub mod Given
 pub mod Numbers
 pub mod Outcomes
 pub mod Reading
-pub mod Seen
 pub mod Verdict

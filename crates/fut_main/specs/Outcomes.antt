@@ -16,8 +16,8 @@ use Rattle.fut_main.specs.declared.status.Status.{Status}
 use Rattle.fut_main.specs.declared.status.Status.TheVariants as status
 use Rattle.fut_main.specs.declared.program.Refusal.{Refusal}
 use Rattle.fut_main.specs.declared.program.Refusal.TheVariants as refusal
-use Rattle.fut_main.specs.declared.words.Command.{Command}
-use Rattle.fut_main.specs.Asking.{Asked, Asks}
+use Rattle.command_words.specs.declared.words.Command.{Command}
+use Rattle.fut_main.specs.Given.{Asked, Asks}
 use Rattle.fut_main.specs.Due.{due_text, run_due}
 use Rattle.fut_main.specs.Verdict.{IsRead, EndsIn, IsIllTypedText, IsVerdict}
 

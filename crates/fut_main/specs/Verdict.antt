@@ -19,14 +19,15 @@ use Rattle.fut_rules.specs.Faults.{rule_number}
 use Rattle.fut_check.specs.Items.{IsWellTyped, IsFirstFault}
 use Rattle.task_machine.specs.Texts.{cell_arrays}
 use Rattle.run_replay.specs.Serials.{IsSerialRun}
-use Rattle.run_replay.specs.Checks.{IsAccepted, IsRefusedAt}
+use Rattle.run_check.specs.Checks.{IsAccepted, IsRefusedAt}
 use Rattle.run_record.specs.Records.{IsRunText, IsFault}
-use Rattle.fut_main.specs.Asking.{Asked, Asks, most_bytes}
+use Rattle.command_words.specs.Asking.{most_bytes}
+use Rattle.fut_main.specs.Given.{Asked, Asks}
 use Rattle.fut_main.specs.Due.{syntax_text, type_text, legal_text, not_legal_text, not_run_text, run_due}
 use Rattle.fut_main.specs.declared.status.Status.{Status}
 use Rattle.fut_main.specs.declared.status.Status.TheVariants as status
-use Rattle.fut_main.specs.declared.words.Command.{Command}
-use Rattle.fut_main.specs.declared.words.Command.TheVariants as command
+use Rattle.command_words.specs.declared.words.Command.{Command}
+use Rattle.command_words.specs.declared.words.Command.TheVariants as command
 
 -- ---- what was read
 

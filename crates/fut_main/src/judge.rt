@@ -1,7 +1,8 @@
 //! From the words and the source to how the call ends.
 ghost use Rattle.std.specs.Prelude.{◌≡◌, ◌≤◌, length};
 ghost use Rattle.fut_base.specs.Events.{events_of};
-ghost use Rattle.fut_main.specs.Asking.{Asked, IsBounded, most_bytes};
+ghost use Rattle.command_words.specs.Asking.{IsBounded, most_bytes};
+ghost use Rattle.fut_main.specs.Given.{Asked};
 ghost use Rattle.fut_main.specs.Verdict.{IsVerdict};
 ghost use Rattle.fut_main.specs.Due.{due_text};
 ghost use Rattle.fut_main.specs.Outcomes.{IsOutcome};
@@ -9,11 +10,11 @@ ghost use Rattle.fut_main.specs.declared.status.Status.TheVariants as status;
 
 use crate::input::{Input, read_all};
 use crate::outcome::Outcome;
-use crate::reading::reads_as;
 use crate::replay::replay_text;
 use crate::run::{check_text, run_text};
 use crate::status::Status;
-use crate::words::{Command, Words};
+use command_words::reading::reads_as;
+use command_words::words::{Command, Words};
 use fut_base::ports::Source;
 use std::alloc::Global;
 

@@ -7,21 +7,18 @@
 mod gathered;
 mod input;
 mod judge;
-mod options;
 mod outcome;
 mod program;
-mod reading;
 mod replay;
 mod run;
 mod status;
 #[cfg(test)]
 mod tests;
 mod top;
-mod words;
 
 use crate::status::{Ended, Status};
 use crate::top::forder;
-use crate::words::Words;
+use command_words::words::Words;
 use fut_base::gate::FreeGate;
 use fut_base::standard::{StdSink, StdSource};
 use std::env::Env;

@@ -6,14 +6,14 @@ ghost use Rattle.fut_syntax.specs.Trees as tree;
 ghost use Rattle.task_code.specs.Flat.{IsCodeOf};
 ghost use Rattle.fut_main.specs.Verdict.{IsWellTypedText};
 ghost use Rattle.fut_main.specs.Outcomes.{IsOutcome};
-ghost use Rattle.fut_main.specs.declared.words.Command.TheVariants as command;
+ghost use Rattle.command_words.specs.declared.words.Command.TheVariants as command;
 
 use crate::outcome::{Outcome, ending, legal_line};
 use crate::program::code_for;
 use crate::status::Status;
+use run_check::checking::{RunFault, check_run};
 use run_record::reader::read_run;
 use run_record::record::{ReadFault, RunText};
-use run_replay::checking::{RunFault, check_run};
 use std::alloc::Global;
 use task_code::code::Code;
 

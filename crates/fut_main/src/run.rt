@@ -4,10 +4,10 @@ ghost use Rattle.fut_base.specs.Events.{events_of};
 ghost use Rattle.fut_syntax.specs.Trees as tree;
 ghost use Rattle.task_code.specs.Flat.{IsCodeOf};
 ghost use Rattle.fut_check.specs.Items.{IsWellTyped};
-ghost use Rattle.fut_main.specs.Asking.{IsBound};
+ghost use Rattle.command_words.specs.Asking.{IsBound};
 ghost use Rattle.fut_main.specs.Due.{run_due};
 ghost use Rattle.fut_main.specs.Outcomes.{IsOutcome, RanAs};
-ghost use Rattle.fut_main.specs.declared.words.Command.TheVariants as command;
+ghost use Rattle.command_words.specs.declared.words.Command.TheVariants as command;
 
 use crate::gathered::Gathered;
 use crate::outcome::{Outcome, ending};

@@ -6,7 +6,7 @@ mod words;
 
 use crate::status::{Ended, Status};
 use crate::top::forder;
-use crate::words::Words;
+use command_words::words::Words;
 use fut_base::gate::FreeGate;
 use fut_base::memory::{MemSink, MemSource};
 use std::alloc::Global;

@@ -1,13 +1,13 @@
 //! The top calls.
 ghost use Rattle.std.specs.Prelude.{◌≡◌, true, false};
 ghost use Rattle.fut_base.specs.Events.{events_of};
-ghost use Rattle.fut_main.specs.Asking.{Asked};
+ghost use Rattle.fut_main.specs.Given.{Asked};
 ghost use Rattle.fut_main.specs.Verdict.{Told, IsAnswer, IsUnhindered, IsFree};
 ghost use Rattle.fut_main.specs.declared.status.Status.TheVariants as status;
 
 use crate::judge::judge;
 use crate::status::{Ended, Status};
-use crate::words::Words;
+use command_words::words::Words;
 use fut_base::gate::Gate;
 use fut_base::ports::{Sink, Source, Wrote};
 use std::alloc::Global;

@@ -11,5 +11,3 @@ pub mod Sameness
 pub mod Only
 pub mod Finding
 pub mod Stepping
-pub mod Finishing
-pub mod Checked

@@ -1,23 +1,13 @@
--- Equal values, and equal races.
+-- Equal values.
 use Rattle.std.proofs.Common.{◌≡◌, Decides, ap}
 use Rattle.std.proofs.lemmas.Bool.{false≢true}
-use Rattle.std.proofs.lemmas.Bool.Decides.{Decides-and, Decides-eqb, Decides-int_eq}
+use Rattle.std.proofs.lemmas.Bool.Decides.{Decides-eqb, Decides-int_eq}
 use Rattle.fut_base.specs.declared.record.Value.{Value}
 use Rattle.fut_base.specs.declared.record.Value.TheVariants.{Int, Fut}
 use Rattle.fut_base.specs.contracts.record.ValuePartialEq.TheImpl as eq
-use Rattle.fut_base.specs.declared.record.Race.{Race}
-use Rattle.fut_base.specs.contracts.record.RacePartialEq.TheImpl as eq_race
-use Rattle.fut_base.proofs.Reports.{same_race}
 
 pub value_decides : (a b : Value) → Decides (eq.eq-value.it a b) (a ≡ b)
 value_decides (Int x) (Int y) = (λ h. ap Int ((Decides-int_eq x y).0 h), λ e. (Decides-int_eq x y).1 (let same : x ≡ y = cc in same))
 value_decides (Int x) (Fut y) = (λ h. absurd (false≢true h), λ e. cc)
 value_decides (Fut x) (Int y) = (λ h. absurd (false≢true h), λ e. cc)
 value_decides (Fut x) (Fut y) = (λ h. ap Fut ((Decides-eqb x y).0 h), λ e. (Decides-eqb x y).1 (let same : x ≡ y = cc in same))
-
-pub race_decides : (a b : Race) → Decides (eq_race.eq-value.it a b) (a ≡ b)
-race_decides a b =
-    let d = Decides-and _ _ (Decides-eqb a.cell b.cell) (Decides-and _ _ (Decides-eqb a.first b.first) (Decides-eqb a.second b.second)) in (
-      λ h. (let e = d.0 h in same_race a b e.0 e.1.0 e.1.1),
-      λ e. d.1 (ap (λ (r : Race). r.cell) e, (ap (λ (r : Race). r.first) e, ap (λ (r : Race). r.second) e)),
-    )

@@ -1,4 +1,3 @@
-pub mod Checks
 pub mod Next
 pub mod Ready
 pub mod Replays

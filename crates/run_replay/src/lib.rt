@@ -1,9 +1,7 @@
 //! The events of a run made one after the other: a run beside the machine of the definitions, and the serial run.
 #![tactic(auto)]
 
-pub mod checking;
-mod copies;
-mod ending;
+pub mod copies;
 pub mod line;
 mod ready;
 pub mod replay;

@@ -67,7 +67,7 @@ impl Model for Replay {
 }
 
 /// Whether a task goes on with local steps for too long.
-pub(crate) fn is_long(wish: Wish) -> bool
+pub fn is_long(wish: Wish) -> bool
     ensures long { result ≡ true → wish ≡ asked.Long }
     ensures event { result ≡ false → IsEvent wish }
 {
@@ -145,14 +145,14 @@ impl Replay {
     }
 
     /// How many of them were creates.
-    pub(crate) fn creates(&self) -> u32
+    pub fn creates(&self) -> u32
         ensures { result ≡ self.now.creates }
     {
         self.creates
     }
 
     /// Whether a task exists and has not ended.
-    pub(crate) fn runs(&self, task: u32) -> bool
+    pub fn runs(&self, task: u32) -> bool
         ensures { result ≡ is_running (slice_get self.now.lines task) }
     {
         match self.lines.get(task as usize) {
@@ -172,7 +172,7 @@ impl Replay {
     }
 
     /// What a task wishes to do next.
-    pub(crate) fn ask(&mut self, code: &Code, task: u32) -> Wish
+    pub fn ask(&mut self, code: &Code, task: u32) -> Wish
         requires known { IsSomeReplay code.now self.old }
         requires running { RunsAt self.old.lines task }
         ensures still { StandsStill code.now self.old self.new }

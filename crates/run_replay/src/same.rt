@@ -1,8 +1,8 @@
-//! Whether two acts, or two lists of races, are the same.
+//! Whether two acts are the same.
 ghost use Rattle.std.specs.Prelude.{◌≡◌, ◌↔◌, IsTrue};
 ghost use Rattle.fut_base.specs.Events.{action_of};
 
-use fut_base::record::{Act, Args, Race};
+use fut_base::record::{Act, Args};
 
 fn same_args(a: &Args, b: &Args) -> bool
     ensures { IsTrue result ↔ (a.now.items ≡ b.now.items) }
@@ -65,11 +65,4 @@ pub fn same_act(a: &Act, b: &Act) -> bool
         (Act::End { value: v }, Act::End { value }) => v == value,
         _ => false,
     }
-}
-
-/// Whether two lists of races are equal.
-pub fn same_races(made: &[Race], told: &[Race]) -> bool
-    ensures { IsTrue result ↔ (made.now ≡ told.now) }
-{
-    made == told
 }

@@ -2,7 +2,7 @@
 use crate::status::Status;
 use crate::tests::{RACE, RACE_RECORD, REPLAY, RUN, ask, call_forder};
 use crate::top::plain;
-use crate::words::Words;
+use command_words::words::Words;
 use fut_base::memory::{MemSink, MemSource};
 use fut_base::ports::{Put, Sink, Source, Took};
 use fut_base::standard::{StdSink, StdSource};

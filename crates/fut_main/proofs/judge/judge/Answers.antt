@@ -1,6 +1,6 @@
 use Rattle.fut_base.specs.Events.{events_of}
 use Rattle.fut_main.proofs.Endings.{not_usage}
-use Rattle.fut_main.proofs.Wording.{bounded}
+use Rattle.command_words.proofs.Wording.{bounded}
 use Rattle.fut_main.proofs.judge.judge.Goals as goal
 
 pub outcome_of-requires-clause-bounded : goal.outcome_of-requires-clause-bounded

@@ -1,5 +1,5 @@
 use Rattle.fut_base.specs.Events.{events_of}
-use Rattle.fut_main.specs.declared.words.Command.TheVariants as command
+use Rattle.command_words.specs.declared.words.Command.TheVariants as command
 use Rattle.fut_main.proofs.Endings.{refused}
 use Rattle.fut_main.proofs.replay.replay_program.Goals as goal
 

@@ -1,5 +1,5 @@
 use Rattle.std.proofs.Common.{refl}
-use Rattle.fut_main.specs.declared.words.Command.TheVariants as command
+use Rattle.command_words.specs.declared.words.Command.TheVariants as command
 use Rattle.fut_main.proofs.Endings.{refused}
 use Rattle.fut_main.proofs.run.run_text.Goals as goal
 

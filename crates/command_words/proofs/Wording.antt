@@ -1,0 +1,79 @@
+-- Words that begin with the name of a command.
+use Rattle.std.proofs.Common.{◌≡◌, ℕ, Bool, true, false, List, [], ◌∷◌, inl, inr, sym, ap, ◌∙◌, subst, arith, codes, slice_index}
+use Rattle.std.specs.Prelude.{Option, Some, None, MatchOption}
+use Rattle.command_words.specs.declared.options.Choice.{Choice}
+use Rattle.command_words.specs.declared.options.Choice.TheVariants as choice
+use Rattle.command_words.specs.declared.words.Command.{Command}
+use Rattle.command_words.specs.declared.words.Command.TheVariants as command
+use Rattle.command_words.specs.Asking.{EachMayStand, bound_of, IsBound, IsBounded, AreOptions, AreWordsOf, Commands}
+
+-- two lists that are one begin with one item
+pub same_head : (words : List (List ℕ)) (x y : List ℕ) (xs ys : List (List ℕ)) → words ≡ x ∷ xs → words ≡ y ∷ ys → x ≡ y
+same_head words x y xs ys e f = let q : x ∷ xs ≡ y ∷ ys = sym e ∙ f in cc
+
+same_rest : (words : List (List ℕ)) (x : List ℕ) (xs ys : List (List ℕ)) → words ≡ x ∷ xs → words ≡ x ∷ ys → ys ≡ xs
+same_rest words x xs ys e f = let q : x ∷ ys ≡ x ∷ xs = sym f ∙ e in cc
+
+-- the first letters, and the second ones where those are the same
+serial_check : codes "serial" ≡ codes "check" → ⊥
+serial_check e = let bad : ◌≡◌ {A = ℕ} 115 99 = ap (λ w. slice_index w 0) e in omega (arith, bad)
+
+pub serial_replay : codes "serial" ≡ codes "replay" → ⊥
+serial_replay e = let bad : ◌≡◌ {A = ℕ} 115 114 = ap (λ w. slice_index w 0) e in omega (arith, bad)
+
+serial_run : codes "serial" ≡ codes "run" → ⊥
+serial_run e = let bad : ◌≡◌ {A = ℕ} 115 114 = ap (λ w. slice_index w 0) e in omega (arith, bad)
+
+run_check : codes "run" ≡ codes "check" → ⊥
+run_check e = let bad : ◌≡◌ {A = ℕ} 114 99 = ap (λ w. slice_index w 0) e in omega (arith, bad)
+
+pub run_replay : codes "run" ≡ codes "replay" → ⊥
+run_replay e = let bad : ◌≡◌ {A = ℕ} 117 101 = ap (λ w. slice_index w 1) e in omega (arith, bad)
+
+pub check_replay : codes "check" ≡ codes "replay" → ⊥
+check_replay e = let bad : ◌≡◌ {A = ℕ} 99 114 = ap (λ w. slice_index w 0) e in omega (arith, bad)
+
+-- a run with these options, or none
+abbrev pub IsRunWith : Bool → List (List ℕ) → Option Command → Type 0
+IsRunWith workers rest r = MatchOption r
+    ((events : ℕ) (brief : Bool) → AreOptions workers rest events brief → ⊥)
+    (λ c. (events : ℕ) × (brief : Bool) × (c ≡ command.Run events brief) × AreOptions workers rest events brief)
+
+serial_none : (m : Bool) (words rest : List (List ℕ)) → words ≡ codes "serial" ∷ rest → ((events : ℕ) (brief : Bool) → AreOptions false rest events brief → ⊥) → (c : Command) → AreWordsOf m words c → ⊥
+serial_none m words rest e none command.Check w = serial_check (same_head words _ _ _ _ e w)
+serial_none m words rest e none command.Replay w = serial_replay (same_head words _ _ _ _ e w)
+serial_none m words rest e none (command.Run events brief) (inl w) =
+    none events brief (subst (λ r. AreOptions false r events brief) (same_rest words _ rest w.0 e w.1) w.2)
+serial_none m words rest e none (command.Run events brief) (inr w) = serial_run (same_head words _ _ _ _ e w.2)
+
+pub for_serial : (m : Bool) (words rest : List (List ℕ)) (r : Option Command) → words ≡ codes "serial" ∷ rest → IsRunWith false rest r → Commands m words r
+for_serial m words rest None e none = serial_none m words rest e none
+for_serial m words rest (Some c) e some = subst (AreWordsOf m words) (sym some.2) (inl (rest, e, some.3))
+
+run_none : (m : Bool) (words rest : List (List ℕ)) → words ≡ codes "run" ∷ rest → ((events : ℕ) (brief : Bool) → AreOptions true rest events brief → ⊥) → (c : Command) → AreWordsOf m words c → ⊥
+run_none m words rest e none command.Check w = run_check (same_head words _ _ _ _ e w)
+run_none m words rest e none command.Replay w = run_replay (same_head words _ _ _ _ e w)
+run_none m words rest e none (command.Run events brief) (inl w) = serial_run (sym (same_head words _ _ _ _ e w.1))
+run_none m words rest e none (command.Run events brief) (inr w) =
+    none events brief (subst (λ r. AreOptions true r events brief) (same_rest words _ rest w.0 e w.2) w.3)
+
+pub for_run : (m : Bool) (words rest : List (List ℕ)) (r : Option Command) → m ≡ true → words ≡ codes "run" ∷ rest → IsRunWith true rest r → Commands m words r
+for_run m words rest None may e none = run_none m words rest e none
+for_run m words rest (Some c) may e some = subst (AreWordsOf m words) (sym some.2) (inr (rest, may, e, some.3))
+
+-- ---- bounds
+
+in_range : (workers : Bool) (cs : List Choice) → EachMayStand workers cs → IsBound (bound_of cs)
+in_range workers [] each = (omega arith, omega arith)
+in_range workers (choice.Events n ∷ cs) each = each.0
+in_range workers (choice.Brief ∷ cs) each = in_range workers cs each.1
+in_range workers (choice.Workers ∷ cs) each = in_range workers cs each.1
+
+options_bounded : (workers : Bool) (rest : List (List ℕ)) (events : ℕ) (brief : Bool) → AreOptions workers rest events brief → IsBound events
+options_bounded workers rest events brief are = subst IsBound (sym are.bound) (in_range workers are.choices are.allowed)
+
+pub bounded : (m : Bool) (words : List (List ℕ)) (c : Command) → AreWordsOf m words c → IsBounded c
+bounded m words command.Check w = tt
+bounded m words command.Replay w = tt
+bounded m words (command.Run events brief) (inl w) = options_bounded false w.0 events brief w.2
+bounded m words (command.Run events brief) (inr w) = options_bounded true w.0 events brief w.3

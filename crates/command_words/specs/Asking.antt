@@ -1,0 +1,108 @@
+-- What the words of a command line ask for.
+use Rattle.std.specs.Prelude.{◌≡◌, ℕ, ◌+◌, ◌≤◌, Bool, true, false, nat_lt, List, [], ◌∷◌, ◌++◌, codes, decimal, Option, Some, None, ◌⊎◌}
+use Rattle.command_words.specs.declared.options.Choice.{Choice}
+use Rattle.command_words.specs.declared.options.Choice.TheVariants as choice
+use Rattle.command_words.specs.declared.words.Command.{Command}
+use Rattle.command_words.specs.declared.words.Command.TheVariants as command
+
+-- ---- the options of a run
+
+-- how an option is written: `--events` and a decimal number, `--brief`, or `--workers 1`
+abbrev pub spelling : Choice → List (List ℕ)
+spelling (choice.Events bound) = codes "--events" ∷ decimal bound ∷ []
+spelling choice.Brief = codes "--brief" ∷ []
+spelling choice.Workers = codes "--workers" ∷ codes "1" ∷ []
+
+-- options written one after the other
+abbrev pub spellings : List Choice → List (List ℕ)
+spellings [] = []
+spellings (c ∷ cs) = spelling c ++ spellings cs
+
+-- the numbers of entries that a run may be bounded by
+abbrev pub IsBound : ℕ → Type 0
+IsBound events = (1 ≤ events) × (events ≤ 1000000)
+
+-- an option may be chosen: its number is in range, and `--workers` only where that is an option
+abbrev pub MayStand : Bool → Choice → Type 0
+MayStand workers (choice.Events bound) = IsBound bound
+MayStand workers choice.Brief = Unit {0}
+MayStand workers choice.Workers = workers ≡ true
+
+abbrev pub EachMayStand : Bool → List Choice → Type 0
+EachMayStand workers [] = Unit {0}
+EachMayStand workers (c ∷ cs) = MayStand workers c × EachMayStand workers cs
+
+abbrev pub is_events : Choice → Bool
+is_events (choice.Events _) = true
+is_events _ = false
+
+abbrev pub is_brief : Choice → Bool
+is_brief choice.Brief = true
+is_brief _ = false
+
+abbrev pub is_workers : Choice → Bool
+is_workers choice.Workers = true
+is_workers _ = false
+
+abbrev pub times : Bool → ℕ
+times false = 0
+times true = 1
+
+-- how often options of a kind are chosen
+abbrev pub count : (Choice → Bool) → List Choice → ℕ
+count kind [] = 0
+count kind (c ∷ cs) = times (kind c) + count kind cs
+
+-- each option is chosen once at most
+pub record IsOnce (choices : List Choice) : Type 0 where
+  pub events : count is_events choices ≤ 1
+  pub brief : count is_brief choices ≤ 1
+  pub workers : count is_workers choices ≤ 1
+
+-- the number of entries that the options name, or 100,000
+abbrev pub bound_of : List Choice → ℕ
+bound_of [] = 100000
+bound_of (choice.Events bound ∷ _) = bound
+bound_of (choice.Brief ∷ cs) = bound_of cs
+bound_of (choice.Workers ∷ cs) = bound_of cs
+
+-- `--brief` is among the options
+abbrev pub is_brief_in : List Choice → Bool
+is_brief_in choices = nat_lt 0 (count is_brief choices)
+
+-- the words are options of a run in some order, each at most once; they ask for so many entries, and for the brief text or not
+pub record AreOptions (workers : Bool) (words : List (List ℕ)) (events : ℕ) (brief : Bool) : Type 0 where
+  pub choices : List Choice
+  pub written : words ≡ spellings choices
+  pub allowed : EachMayStand workers choices
+  pub once : IsOnce choices
+  pub bound : events ≡ bound_of choices
+  pub brief_is : brief ≡ is_brief_in choices
+
+-- ---- commands
+
+-- the words are those of a command: `check`, `replay`, `serial` with options, or, where runs on workers are made, `run`
+-- with options, among which `--workers 1` may be
+abbrev pub AreWordsOf : Bool → List (List ℕ) → Command → Type 0
+AreWordsOf may_run words command.Check = words ≡ codes "check" ∷ []
+AreWordsOf may_run words command.Replay = words ≡ codes "replay" ∷ []
+AreWordsOf may_run words (command.Run events brief) =
+    ((rest : List (List ℕ)) × (words ≡ codes "serial" ∷ rest) × AreOptions false rest events brief)
+    ⊎ ((rest : List (List ℕ)) × (may_run ≡ true) × (words ≡ codes "run" ∷ rest) × AreOptions true rest events brief)
+
+-- a run is asked for with a number of entries in range
+abbrev pub IsBounded : Command → Type 0
+IsBounded command.Check = Unit {0}
+IsBounded command.Replay = Unit {0}
+IsBounded (command.Run events brief) = IsBound events
+
+-- how many bytes a command reads at most: a program text has 1,048,576, a run text 67,108,864
+abbrev pub most_bytes : Command → ℕ
+most_bytes command.Check = 1048576
+most_bytes command.Replay = 67108864
+most_bytes (command.Run events brief) = 1048576
+
+-- the words are those of the command that is told, or of none
+abbrev pub Commands : Bool → List (List ℕ) → Option Command → Type 0
+Commands may_run words (Some c) = AreWordsOf may_run words c
+Commands may_run words None = (c : Command) → AreWordsOf may_run words c → ⊥
