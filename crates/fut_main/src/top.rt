@@ -12,13 +12,14 @@ use fut_base::gate::Gate;
 use fut_base::ports::{Sink, Source, Wrote};
 use std::alloc::Global;
 
-/// Does what the words ask for: reads a program text from the source, and writes to the sink the record of its run with
-/// the races of that run, or its canonical text.
+/// Does what the words ask for: reads a program text or a record from the source, and writes to the sink the record of the
+/// program's run with the races of that run, or their brief text, or the program's canonical text, or whether the record is legal.
 ///
-/// The words are `check`, or `serial` or `run --workers 1`, which `--events` and a number from 1 to 1,000,000 may follow;
-/// for all others the answer is `Usage`, and nothing is read. A run with one worker is the serial run, in which a child or
-/// future runs to its end before its maker goes on. It ends after 100,000 entries, or as many as the words say. The history
-/// is that of the run, also where the sink failed while its record was written; where no run was made it is empty.
+/// The words are `check`, `replay`, or `serial` or `run` with options behind it, each at most once and in any order: `--events`
+/// and a number from 1 to 1,000,000, `--brief`, and for `run` `--workers 1`. For all others the answer is `Usage`, and nothing is
+/// read. A run with one worker is the serial run, in which a child or future runs to its end before its maker goes on. It ends after
+/// 100,000 entries, or as many as the words say. The history is that of the run or of the legal record, also where the sink failed
+/// while its text was written; where there is neither it is empty.
 pub fn forder<R, S: Source, K: Sink, G: Gate>(
     _rt: &R,
     alloc: Global,
@@ -47,7 +48,7 @@ pub fn forder<R, S: Source, K: Sink, G: Gate>(
     answer(alloc, words, true, source, out)
 }
 
-/// What `forder` does for the words of `check` and `serial`. For all others, a run on workers among them, the answer is
+/// What `forder` does for the words of `check`, `replay` and `serial`. For all others, those of `run` among them, the answer is
 /// `Usage`, and nothing is read.
 pub fn plain<S: Source, K: Sink>(alloc: Global, words: &Words, source: &mut S, out: &mut K) -> Ended
     // The status, the history and what was written are those of a verdict whose causes hold.
