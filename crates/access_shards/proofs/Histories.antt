@@ -110,7 +110,7 @@ pub touches_rise : (c : ℕ) (past : List Event) → IsRising (touches_past c pa
 touches_rise c [] = tt
 touches_rise c (e ∷ past) = rise_next c past e (kind_of c e.action) (touches_rise c past)
 
-abbrev by_structure : Event → Bool
+abbrev pub by_structure : Event → Bool
 by_structure e = structural e.action
 
 -- accesses change nothing of the current and last strands
@@ -123,7 +123,7 @@ current_next past ih task s (Syncs x) t = ap (λ o. current_by task (Syncs x) t 
 current_next past ih task s (Gets f v x) t = ap (λ o. current_by task (Gets f v x) t o) (ih t)
 current_next past ih task s (Ends v) t = ih t
 
-same_current : (past : List Event) (t : ℕ) → current (filter by_structure past) t ≡ current past t
+pub same_current : (past : List Event) (t : ℕ) → current (filter by_structure past) t ≡ current past t
 same_current [] t = refl
 same_current (e ∷ past) t = current_next past (same_current past) e.task e.strand e.action t
 
@@ -140,7 +140,7 @@ last_next past ih task s (Syncs x) t = ap (λ o. if (t == task) && false then So
 last_next past ih task s (Gets f v x) t = ap (λ o. if (t == task) && false then Some s else o) (ih t)
 last_next past ih task s (Ends v) t = ap (λ o. if (t == task) && true then Some s else o) (ih t)
 
-same_last : (past : List Event) (t : ℕ) → last_of (filter by_structure past) t ≡ last_of past t
+pub same_last : (past : List Event) (t : ℕ) → last_of (filter by_structure past) t ≡ last_of past t
 same_last [] t = refl
 same_last (e ∷ past) t = last_next past (same_last past) e.task e.strand e.action t
 

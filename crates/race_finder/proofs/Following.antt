@@ -10,7 +10,7 @@ use Rattle.fut_base.specs.Events.{event_of, structure_of}
 use Rattle.fut_base.specs.Sound.{IsSound, IsSoundPast}
 use Rattle.reach_table.proofs.Events.{sound_before}
 use Rattle.access_shards.specs.Histories.{AreStanding, IsInStep}
-use Rattle.race_finder.proofs.Next.{by_structure}
+use Rattle.access_shards.proofs.Histories.{by_structure}
 
 standing_before : (later past : List Event) → AreStanding (later ++ past) → AreStanding past
 standing_before [] past h = h

@@ -1,5 +1,5 @@
 -- A history and one more event.
-use Rattle.std.proofs.Common.{◌≡◌, ◌≢◌, ℕ, Bool, true, false, cond, List, [], ◌∷◌, ◌++◌, length, reverse, filter, subst, ap, sym, refl, ◌∙◌, option_to_list, option_map, ◌==◌, ◌&&◌, if◌then◌else◌}
+use Rattle.std.proofs.Common.{◌≡◌, ◌≢◌, ℕ, true, false, cond, List, [], ◌∷◌, ◌++◌, length, reverse, filter, subst, ap, sym, refl, ◌∙◌, option_to_list, option_map, ◌==◌, if◌then◌else◌}
 use Rattle.std.specs.Prelude.{Option, Some, None}
 use Rattle.std.proofs.lemmas.List.{reverse-append, length-reverse, append-nil}
 use Rattle.std.proofs.lemmas.List.Elements.{filter-append}
@@ -8,46 +8,13 @@ use Rattle.fut_base.specs.declared.event.Action.{Action}
 use Rattle.fut_base.specs.declared.event.Action.TheVariants.{Reads, Writes, Spawns, Creates, Syncs, Gets, Ends}
 use Rattle.fut_base.specs.Events.{structural, structure_of}
 use Rattle.fut_base.specs.Dag.{last_of}
-use Rattle.fut_base.specs.Sound.{current, current_by}
+use Rattle.fut_base.specs.Sound.{current}
 use Rattle.strand_laws.proofs.Links.{ev, if_off}
 use Rattle.strand_laws.proofs.Places.{by_eq}
 use Rattle.strand_laws.proofs.Structure.{reverse_filter}
 use Rattle.access_shards.specs.Kept.{Kind, reading, writing, touch}
+use Rattle.access_shards.proofs.Histories.{by_structure, same_current, same_last}
 use Rattle.access_shards.specs.Histories.{kind_of, touches_past, touches_of, IsStanding, AreStanding, IsInStep}
-
-abbrev pub by_structure : Event → Bool
-by_structure e = structural e.action
-
--- accesses change nothing of the current and last strands
-current_next : (past : List Event) → ((t : ℕ) → current (filter by_structure past) t ≡ current past t) → (task s : ℕ) (a : Action) (t : ℕ) → current (filter by_structure (ev task s a ∷ past)) t ≡ current (ev task s a ∷ past) t
-current_next past ih task s (Reads c n) t = ih t
-current_next past ih task s (Writes c n) t = ih t
-current_next past ih task s (Spawns d c k y args) t = ap (λ o. current_by task (Spawns d c k y args) t o) (ih t)
-current_next past ih task s (Creates d c k y args) t = ap (λ o. current_by task (Creates d c k y args) t o) (ih t)
-current_next past ih task s (Syncs x) t = ap (λ o. current_by task (Syncs x) t o) (ih t)
-current_next past ih task s (Gets f v x) t = ap (λ o. current_by task (Gets f v x) t o) (ih t)
-current_next past ih task s (Ends v) t = ih t
-
-same_current : (past : List Event) (t : ℕ) → current (filter by_structure past) t ≡ current past t
-same_current [] t = refl
-same_current (e ∷ past) t = current_next past (same_current past) e.task e.strand e.action t
-
-if_none : (b : Bool) (o r : Option ℕ) → r ≡ (if b && false then o else r)
-if_none true o r = refl
-if_none false o r = refl
-
-last_next : (past : List Event) → ((t : ℕ) → last_of (filter by_structure past) t ≡ last_of past t) → (task s : ℕ) (a : Action) (t : ℕ) → last_of (filter by_structure (ev task s a ∷ past)) t ≡ last_of (ev task s a ∷ past) t
-last_next past ih task s (Reads c n) t = ih t ∙ if_none (t == task) (Some s) (last_of past t)
-last_next past ih task s (Writes c n) t = ih t ∙ if_none (t == task) (Some s) (last_of past t)
-last_next past ih task s (Spawns d c k y args) t = ap (λ o. if (t == task) && false then Some s else o) (ih t)
-last_next past ih task s (Creates d c k y args) t = ap (λ o. if (t == task) && false then Some s else o) (ih t)
-last_next past ih task s (Syncs x) t = ap (λ o. if (t == task) && false then Some s else o) (ih t)
-last_next past ih task s (Gets f v x) t = ap (λ o. if (t == task) && false then Some s else o) (ih t)
-last_next past ih task s (Ends v) t = ap (λ o. if (t == task) && true then Some s else o) (ih t)
-
-same_last : (past : List Event) (t : ℕ) → last_of (filter by_structure past) t ≡ last_of past t
-same_last [] t = refl
-same_last (e ∷ past) t = last_next past (same_last past) e.task e.strand e.action t
 
 -- the current and last strands in a history's structure
 pub current_of : (h : List Event) (t : ℕ) → current (reverse (structure_of h)) t ≡ current (reverse h) t

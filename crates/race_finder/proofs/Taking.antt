@@ -21,7 +21,7 @@ use Rattle.race_finder.specs.Places.{Placed}
 use Rattle.race_finder.specs.Finding.{last_if, IsDoerOf, AreDoersOf, Knows, IsSpawnBy, IsCreateBy, IsGetBy, IsSyncBy}
 use Rattle.race_finder.specs.Acting.{AreForked, SpawnsOne, CreatesOne, AreJoined, GetsOne, SyncsOne, AreOf, MaySync, TableAfterGet, TableOfBlock, IsSameDoer}
 use Rattle.race_finder.proofs.Lists.{set_get}
-use Rattle.race_finder.proofs.Next.{by_structure}
+use Rattle.access_shards.proofs.Histories.{by_structure}
 use Rattle.race_finder.proofs.Accesses.{strands_in}
 use Rattle.race_finder.proofs.Structural.{followed, acting_at, doers_forked, doers_acted, sound_more, knows_structural}
 

@@ -32,6 +32,7 @@ use Rattle.task_code.specs.declared.task.Wish.TheVariants as wish
 use Rattle.task_code.specs.declared.task.Wish as declared
 use Rattle.task_code.specs.Flat.{Compiled, AreGiven, AreCodesOf, IsCodeOf, code_of}
 use Rattle.task_code.specs.Tasks.{TaskNow, Moved, moves, wished, wished_source, passed_by, passed_by_source, where_of, Does, IsEnd, IsIn, IsTaskOf, IsTold, Turned, Told, IsStill, StopsAt, Wishes, instruction_of, trace_events, slots_after, spot_after, ended_after}
+use Rattle.task_machine.proofs.Stepping.{same_stop}
 use Rattle.task_code.proofs.Simulating.{Followed, followed, does_append}
 use Rattle.task_code.proofs.Feeding.{fed_in}
 
@@ -45,17 +46,6 @@ steps_before : (limit n : ℕ) (s t : TaskState) → limit ≤ n → Steps n s t
 steps_before zero n s t le h = (s, refl)
 steps_before (suc limit) zero s t le h = absurd (omega arith)
 steps_before (suc limit) (suc n) s t le (v, first, rest) = let r = steps_before limit n v t (omega arith) rest in (r.0, (v, first, r.1))
-
-some_same : {X : Type 0} (x y : X) → Some x ≡ Some y → x ≡ y
-some_same x y h = cc
-
-same_stop : (n k : ℕ) (s t u : TaskState) → Steps n s t → local_step t ≡ None → Steps k s u → local_step u ≡ None → t ≡ u
-same_stop zero zero s t u a at b bt = sym a ∙ b
-same_stop zero (suc k) s t u a at b bt = absurd (let e : local_step s ≡ None = subst (λ x. local_step x ≡ None) (sym a) at in let f : local_step s ≡ Some b.0 = b.1 in cc)
-same_stop (suc n) zero s t u a at b bt = absurd (let e : local_step s ≡ None = subst (λ x. local_step x ≡ None) (sym b) bt in let f : local_step s ≡ Some a.0 = a.1 in cc)
-same_stop (suc n) (suc k) s t u a at b bt =
-    let same : a.0 ≡ b.0 = some_same a.0 b.0 (sym a.1 ∙ b.1) in
-    same_stop n k a.0 t u a.2 at (subst (λ x. Steps k x u) (sym same) b.2) bt
 
 -- ---- a turn
 

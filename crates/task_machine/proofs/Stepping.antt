@@ -7,10 +7,10 @@ use Rattle.task_machine.specs.State.{TaskState, local_step}
 use Rattle.task_machine.specs.Runs.{Steps, StandsWithin, GoesOn, StandsAt, IsOutOfSteps}
 use Rattle.task_machine.specs.Machine.{Machine, Running, IsStep, after}
 
-some_same : {X : Type 0} (x y : X) → Some x ≡ Some y → x ≡ y
+pub some_same : {X : Type 0} (x y : X) → Some x ≡ Some y → x ≡ y
 some_same x y h = cc
 
-same_stop : (n k : ℕ) (s t u : TaskState) → Steps n s t → local_step t ≡ None → Steps k s u → local_step u ≡ None → t ≡ u
+pub same_stop : (n k : ℕ) (s t u : TaskState) → Steps n s t → local_step t ≡ None → Steps k s u → local_step u ≡ None → t ≡ u
 same_stop zero zero s t u a at b bt = sym a ∙ b
 same_stop zero (suc k) s t u a at b bt = absurd (let e : local_step s ≡ None = subst (λ x. local_step x ≡ None) (sym a) at in let f : local_step s ≡ Some b.0 = b.1 in cc)
 same_stop (suc n) zero s t u a at b bt = absurd (let e : local_step s ≡ None = subst (λ x. local_step x ≡ None) (sym b) bt in let f : local_step s ≡ Some a.0 = a.1 in cc)
