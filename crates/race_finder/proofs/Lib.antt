@@ -9,3 +9,4 @@ pub mod Joining
 pub mod Blocks
 pub mod Taking
 pub mod Following
+pub mod Looking

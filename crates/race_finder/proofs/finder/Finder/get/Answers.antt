@@ -1,9 +1,9 @@
 use Rattle.std.proofs.Common.{◌+◌, List, ℕ, length, reverse, arith, refl, ap, subst}
-use Rattle.std.proofs.lemmas.Option.{slice_get_read}
 use Rattle.fut_base.specs.Events.{structure_of}
 use Rattle.race_finder.specs.declared.doer.Doer.{Doer}
 use Rattle.race_finder.specs.Acting.{TableAfterGet}
-use Rattle.race_finder.proofs.Accesses.{task_in, doer_of}
+use Rattle.race_finder.proofs.Accesses.{task_in}
+use Rattle.race_finder.proofs.Looking.{looked_up, in_english, in_hebrew}
 use Rattle.race_finder.proofs.Blocks.{value_there}
 use Rattle.race_finder.proofs.Taking.{places_few, value_known, get_taken}
 use Rattle.race_finder.proofs.finder.Finder.get.Goals as goal
@@ -43,31 +43,21 @@ pub get_one-requires-clause-english : goal.get_one-requires-clause-english
 get_one-requires-clause-english c =
     let r = c.requires in
     let f = c.args.self.now in
-    let doers = f.doers.items in
-    let d = c.index_mut.result.now in
-    let lt = task_in r.0 r.1 f.places.english f.places.hebrew doers f.logs.items f.count c.args.task r.3 r.4 r.2.task_is in
-    let k = (doer_of r.0 f.places.english f.places.hebrew doers f.logs.items f.count c.args.task d r.3 (slice_get_read doers (length doers) c.args.task d refl lt c.index_mut.ensures.value)).0 in
-    let m = ap (length {A = ℕ}) c.in_ok-reserve.ensures.english in
-    omega (arith, k, m)
+    in_english r.0 r.1 f.places.english f.places.hebrew f.doers.items f.logs.items f.count c.args.task r.3 r.4 r.2.task_is
+    f.doers.items c.index_mut.result.now c.reserve.new.self.english refl c.index_mut.ensures.value c.in_ok-reserve.ensures.english
 
 pub get_one-requires-clause-hebrew : goal.get_one-requires-clause-hebrew
 get_one-requires-clause-hebrew c =
     let r = c.requires in
     let f = c.args.self.now in
-    let doers = f.doers.items in
-    let d = c.index_mut.result.now in
-    let lt = task_in r.0 r.1 f.places.english f.places.hebrew doers f.logs.items f.count c.args.task r.3 r.4 r.2.task_is in
-    let k = (doer_of r.0 f.places.english f.places.hebrew doers f.logs.items f.count c.args.task d r.3 (slice_get_read doers (length doers) c.args.task d refl lt c.index_mut.ensures.value)).0 in
-    let m = ap (length {A = ℕ}) c.in_ok-reserve.ensures.hebrew in
-    let n = (places_few r.0 f.places.english f.places.hebrew doers f.logs.items f.count r.3).1 in
-    omega (arith, k, m, n)
+    in_hebrew r.0 r.1 f.places.english f.places.hebrew f.doers.items f.logs.items f.count c.args.task r.3 r.4 r.2.task_is
+    f.doers.items c.index_mut.result.now c.reserve.new.self.hebrew refl c.index_mut.ensures.value c.in_ok-reserve.ensures.hebrew
 
 pub returns-clause-takes : goal.returns-clause-takes
 returns-clause-takes c = λ h e p k steps.
     let f = c.args.self.now in
     let doers = f.doers.items in
     let d = c.index_mut.result.now in
-    let lt = task_in h e f.places.english f.places.hebrew doers f.logs.items f.count c.args.task k steps p.task_is in
     get_taken h e steps f.places.english f.places.hebrew doers f.logs.items f.count k c.args.task c.args.future c.reserve.new.self c.get_one.new.places d c.get_one.new.doer c.in_ok-reach.reach (f.count + 1) p
-    c.in_ok-reserve.ensures.english c.in_ok-reserve.ensures.hebrew (slice_get_read doers (length doers) c.args.task d refl lt c.index_mut.ensures.value) c.get_one.ensures.number
+    c.in_ok-reserve.ensures.english c.in_ok-reserve.ensures.hebrew (looked_up h e f.places.english f.places.hebrew doers f.logs.items f.count c.args.task k steps p.task_is doers d refl c.index_mut.ensures.value) c.get_one.ensures.number
     (subst (λ (l : List Doer). TableAfterGet c.reserve.new.self l c.args.task c.args.future c.in_ok-reach.reach) c.as_slice.ensures.value c.in_ok-reach.ensures) c.get_one.ensures.gets refl

@@ -1,11 +1,11 @@
 use Rattle.std.proofs.Common.{◌≡◌, ◌+◌, ◌∙◌, ◌∷◌, [], ◌++◌, List, ℕ, length, set, slice_get, arith, refl, sym, ap, subst}
 use Rattle.std.specs.Prelude.{Some}
-use Rattle.std.proofs.lemmas.Option.{slice_get_read}
 use Rattle.std.proofs.lemmas.Result.{err_from_is_err_and}
 use Rattle.race_finder.specs.declared.doer.Doer.{Doer}
 use Rattle.race_finder.specs.Places.{Placed}
 use Rattle.race_finder.specs.Finding.{Knows}
-use Rattle.race_finder.proofs.Accesses.{task_in, doer_of}
+use Rattle.race_finder.proofs.Accesses.{task_in}
+use Rattle.race_finder.proofs.Looking.{looked_up, in_english, in_hebrew}
 use Rattle.race_finder.proofs.Taking.{places_few, same_known, spawn_taken}
 use Rattle.race_finder.proofs.finder.Finder.spawn.Goals as goal
 
@@ -28,30 +28,15 @@ pub spawn_one-requires-clause-english : goal.spawn_one-requires-clause-english
 spawn_one-requires-clause-english c =
     let r = c.requires in
     let f = c.args.self.now in
-    let doers = f.doers.items in
-    let d = c.index_mut.result.now in
-    let items = c.in_ok-reserve-2.ensures.items in
-    let lt = task_in r.0 r.1 f.places.english f.places.hebrew doers f.logs.items f.count c.args.task r.3 r.4 r.2.task_is in
-    let at = subst (λ (l : List Doer). slice_get l c.args.task ≡ Some d) items
-    (let n = ap (length {A = Doer}) items in slice_get_read c.reserve-2.new.self.items (length c.reserve-2.new.self.items) c.args.task d refl (omega (arith, lt, n)) c.index_mut.ensures.value) in
-    let k = (doer_of r.0 f.places.english f.places.hebrew doers f.logs.items f.count c.args.task d r.3 at).0 in
-    let m = ap (length {A = ℕ}) c.in_ok-reserve.ensures.english in
-    omega (arith, k, m)
+    in_english r.0 r.1 f.places.english f.places.hebrew f.doers.items f.logs.items f.count c.args.task r.3 r.4 r.2.task_is
+    c.reserve-2.new.self.items c.index_mut.result.now c.reserve.new.self.english c.in_ok-reserve-2.ensures.items c.index_mut.ensures.value c.in_ok-reserve.ensures.english
 
 pub spawn_one-requires-clause-hebrew : goal.spawn_one-requires-clause-hebrew
 spawn_one-requires-clause-hebrew c =
     let r = c.requires in
     let f = c.args.self.now in
-    let doers = f.doers.items in
-    let d = c.index_mut.result.now in
-    let items = c.in_ok-reserve-2.ensures.items in
-    let lt = task_in r.0 r.1 f.places.english f.places.hebrew doers f.logs.items f.count c.args.task r.3 r.4 r.2.task_is in
-    let at = subst (λ (l : List Doer). slice_get l c.args.task ≡ Some d) items
-    (let n = ap (length {A = Doer}) items in slice_get_read c.reserve-2.new.self.items (length c.reserve-2.new.self.items) c.args.task d refl (omega (arith, lt, n)) c.index_mut.ensures.value) in
-    let k = (doer_of r.0 f.places.english f.places.hebrew doers f.logs.items f.count c.args.task d r.3 at).0 in
-    let m = ap (length {A = ℕ}) c.in_ok-reserve.ensures.hebrew in
-    let n = (places_few r.0 f.places.english f.places.hebrew doers f.logs.items f.count r.3).1 in
-    omega (arith, k, m, n)
+    in_hebrew r.0 r.1 f.places.english f.places.hebrew f.doers.items f.logs.items f.count c.args.task r.3 r.4 r.2.task_is
+    c.reserve-2.new.self.items c.index_mut.result.now c.reserve.new.self.hebrew c.in_ok-reserve-2.ensures.items c.index_mut.ensures.value c.in_ok-reserve.ensures.hebrew
 
 pub returns-in_err-kid-clause-stays : goal.returns-in_err-kid-clause-stays
 returns-in_err-kid-clause-stays c =
@@ -61,9 +46,7 @@ returns-in_err-kid-clause-stays c =
     let doers = f.doers.items in
     let d = c.index_mut.result.now in
     let items = c.in_ok-reserve-2.ensures.items in
-    let lt = task_in r.0 r.1 f.places.english f.places.hebrew doers f.logs.items f.count c.args.task r.3 r.4 r.2.task_is in
-    let at = subst (λ (l : List Doer). slice_get l c.args.task ≡ Some d) items
-    (let n = ap (length {A = Doer}) items in slice_get_read c.reserve-2.new.self.items (length c.reserve-2.new.self.items) c.args.task d refl (omega (arith, lt, n)) c.index_mut.ensures.value) in
+    let at = looked_up r.0 r.1 f.places.english f.places.hebrew f.doers.items f.logs.items f.count c.args.task r.3 r.4 r.2.task_is c.reserve-2.new.self.items d items c.index_mut.ensures.value in
     let places = c.spawn_one.new.places in
     let en = ap (λ (q : Placed). q.english) c.in_err-kid.ensures.unchanged ∙ c.in_ok-reserve.ensures.english in
     let he = ap (λ (q : Placed). q.hebrew) c.in_err-kid.ensures.unchanged ∙ c.in_ok-reserve.ensures.hebrew in
@@ -79,9 +62,7 @@ returns-clause-takes c = λ h e p k steps.
     let d' = c.spawn_one.new.doer in
     let kid = c.in_ok-kid.kid in
     let items = c.in_ok-reserve-2.ensures.items in
-    let lt = task_in h e f.places.english f.places.hebrew doers f.logs.items f.count c.args.task k steps p.task_is in
-    let at = subst (λ (l : List Doer). slice_get l c.args.task ≡ Some d) items
-    (let n = ap (length {A = Doer}) items in slice_get_read c.reserve-2.new.self.items (length c.reserve-2.new.self.items) c.args.task d refl (omega (arith, lt, n)) c.index_mut.ensures.value) in
+    let at = looked_up h e f.places.english f.places.hebrew doers f.logs.items f.count c.args.task k steps p.task_is c.reserve-2.new.self.items d items c.index_mut.ensures.value in
     spawn_taken h e steps f.places.english f.places.hebrew doers f.logs.items f.count k c.args.task c.args.child c.reserve.new.self c.spawn_one.new.places d d' kid c.push_reserved.new.self.items (f.count + 1) p
     c.in_ok-reserve.ensures.english c.in_ok-reserve.ensures.hebrew at c.in_ok-kid.ensures.numbers c.in_ok-kid.ensures.spawns
     (c.push_reserved.ensures.items ∙ ap (λ (l : List Doer). set l c.args.task d' ++ kid ∷ []) items) refl
