@@ -151,5 +151,11 @@ fn standard_streams(rt: HostRuntime) -> Result<(), Fail> {
     let mut out = StdSink::make(&mut bytes);
     assert!(rt; matches!(out.put(b"ab"), Put::Took(2)));
     assert_eq!(rt; bytes.as_slice(), b"ab".as_slice());
+    // a writer with room for two bytes
+    let mut room = [0u8; 2];
+    let mut short = room.as_mut_slice();
+    let mut out = StdSink::make(&mut short);
+    assert!(rt; matches!(out.put(b"abc"), Put::Took(2)));
+    assert!(rt; matches!(out.put(b"c"), Put::Failed));
     Ok(())
 }
