@@ -20,17 +20,16 @@ pub record IsNotAfter (english : List ℕ) (u v : Strand) : Type 0 where
 abbrev pub EndsBefore : List ℕ → Strand → List Access → Type 0
 EndsBefore english at all = (before : List Access) (last : Access) → all ≡ before ++ last ∷ [] → IsNotAfter english last.strand at
 
--- the list of reads that are kept is not full
-abbrev pub IsNotFull : Kept → Type 0
-IsNotFull (Clean writer readers) = vec_len readers < vec_capacity readers
-IsNotFull (Found first second) = Unit {0}
-
--- a strand comes after the reads of a log in the English order of one future: they are said to rise, the last of them is on
--- such a strand, and their list is not full
+-- a strand comes after the reads of a log in the English order of one future: they are said to rise, and the last of them
+-- is on such a strand
 pub record ComesAfter (english : List ℕ) (at : Strand) (l : Logged) : Type 0 where
   pub rise_is : l.rise ≡ true
   pub last : EndsBefore english at (reads_of l.kept)
-  pub free : IsNotFull l.kept
+
+-- the list of the reads that are kept is not full
+abbrev pub IsNotFull : Kept → Type 0
+IsNotFull (Clean writer readers) = vec_len readers < vec_capacity readers
+IsNotFull (Found first second) = Unit {0}
 
 -- a strand is reached from each of these accesses but the first n, and not from the last of those
 pub record IsDropped (s : List Event) (at : Strand) (all : List Access) (n : ℕ) : Type 0 where

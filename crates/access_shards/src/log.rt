@@ -1,11 +1,11 @@
 //! The accesses of one cell, as far as they are remembered.
-ghost use Rattle.std.specs.Prelude.{◌≡◌, ℕ, ◌+◌, ◌<◌, ◌++◌, List, [], None, OnOk, OnErr, IfErr};
+ghost use Rattle.std.specs.Prelude.{◌≡◌, ℕ, ◌+◌, ◌<◌, ◌++◌, true, List, [], None, OnOk, OnErr, IfErr};
 ghost use Rattle.reach_table.specs.Telling.{AllKnown, HasMovedLast, AsksAtMost};
 ghost use Rattle.access_shards.specs.declared.kept.Kept.{Kept};
 ghost use Rattle.access_shards.specs.Kept.{reading, writing, AreKnown, StrandsStay, IsNew};
 ghost use Rattle.fut_base.specs.declared.event.Event.{Event};
-ghost use Rattle.access_shards.specs.Reading.{ComesAfter};
-ghost use Rattle.access_shards.specs.Logged.{HasRoom, IsLogOf, KeepsOneMore, reader_count};
+ghost use Rattle.access_shards.specs.Reading.{ComesAfter, IsNotFull};
+ghost use Rattle.access_shards.specs.Logged.{HasRoom, IsLogOf, KeepsOneMore, reader_count, RisesIfClean};
 
 use crate::finding::{last_unreached, unreached_writer};
 use crate::kept::{Access, Kept};
@@ -43,6 +43,7 @@ impl CellLog {
     pub fn make(alloc: Global) -> CellLog
         ensures new { IsNew result.kept }
         ensures log { (s : List Event) → IsLogOf s [] result }
+        ensures rise { result.rise ≡ true }
     {
         CellLog {
             alloc,
@@ -94,6 +95,7 @@ impl CellLog {
         requires kept_known { AreKnown (J.known judge.old) self.old.kept }
         ensures kept { OnOk result (KeepsOneMore reach.now at place reading (J.known judge.old) (J.english judge.old) (J.hebrew judge.old) self.old self.new) }
         ensures strands { OnOk result (StrandsStay at self.old.kept self.new.kept) }
+        ensures rise { ComesAfter (J.english judge.old) at self.old → OnOk result (self.new.rise ≡ true) }
         ensures unchanged { OnErr result (self.new ≡ self.old) }
         ensures moved { IfErr result (λ moved. HasMovedLast moved (J.may_move judge.old) (J.loaded judge.old) (J.loaded judge.new)) }
 
@@ -102,7 +104,7 @@ impl CellLog {
 
         // How often the judge is asked.
         ensures asks { AsksAtMost reach.now (reader_count self.old.kept + 2) (J.asked judge.old) (J.asked judge.new) }
-        ensures drops_each { ComesAfter (J.english judge.old) at self.old
+        ensures drops_each { ComesAfter (J.english judge.old) at self.old → IsNotFull self.old.kept
             → OnOk result (AsksAtMost reach.now (reader_count self.old.kept + 4) (J.asked judge.old) (J.asked judge.new + reader_count self.new.kept)) }
 
         // The rest of the judge stays.
@@ -143,6 +145,7 @@ impl CellLog {
         requires kept_known { AreKnown (J.known judge.old) self.old.kept }
         ensures kept { OnOk result (KeepsOneMore reach.now at place writing (J.known judge.old) (J.english judge.old) (J.hebrew judge.old) self.old self.new) }
         ensures strands { OnOk result (StrandsStay at self.old.kept self.new.kept) }
+        ensures rise { OnOk result (RisesIfClean self.new.kept self.new.rise) }
         ensures unchanged { OnErr result (self.new ≡ self.old) }
         ensures moved { IfErr result (λ moved. HasMovedLast moved (J.may_move judge.old) (J.loaded judge.old) (J.loaded judge.new)) }
 

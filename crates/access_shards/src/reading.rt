@@ -169,6 +169,7 @@ pub fn keep_read<J: Judge>(
     requires empty { room.old.items ≡ [] }
     requires room { vec_len readers.old < vec_capacity room.old }
     ensures keeps { IfOk result (λ rises. KeepsRead reach.now new (J.known judge.old) (J.english judge.old) (J.hebrew judge.old) rise readers.old.items rises readers.new.items) }
+    ensures rises { IfOk result (λ rises. rise ≡ true → EndsBefore (J.english judge.old) new.strand readers.old.items → rises ≡ true) }
     ensures those { (a : Access) → Among a readers.new.items → Among a readers.old.items ⊎ (new ≡ a) }
     ensures emptied { room.new.items ≡ [] }
     ensures unchanged { OnErr result (readers.new ≡ readers.old) }
