@@ -134,6 +134,20 @@ ends_of english at xs d a b side ea eb side_is on future_is before last is = sub
   first = inr (subst (λ n. stands_before (get_or xs (length xs - 1) d).strand.number n english ≡ true) eb (subst (λ n. stands_before n b english ≡ true) ea (sym side_is ∙ on)));
 })
 
+-- what is said of the last of some accesses is said of the one at the last place
+pub ends_at : (english : List ℕ) (at : Strand) (xs : List Access) (d : Access) → 0 < length xs → EndsBefore english at xs → IsNotAfter english (get_or xs (length xs - 1) d).strand at
+ends_at english at xs d some ends = elim (split_last xs) [
+  | inl e ↦ absurd (let k = ap (length {A = Access}) e in omega (arith, some, k))
+  | inr k ↦ subst (λ (x : Access). IsNotAfter english x.strand at) (sym (last_at xs k.0 k.1 d k.2)) (ends k.0 k.1 k.2)
+]
+
+-- and the English side tells it
+pub side_at : (english : List ℕ) (u at : Strand) (a b : ℕ) (side : Bool) → a ≡ u.number → b ≡ at.number → side ≡ stands_before a b english → u.number ≢ at.number → IsNotAfter english u at → side ≡ true
+side_at english u at a b side ea eb side_is ne k = elim k.first [
+  | inl e ↦ absurd (ne e)
+  | inr on ↦ side_is ∙ subst (λ n. stands_before a n english ≡ true) (sym eb) (subst (λ n. stands_before n at.number english ≡ true) (sym ea) on)
+]
+
 module _ (table : List Strand) (at : Strand) (known : ℕ) (english hebrew : List ℕ) where
   -- a strand is reached from each access but the first n
   abbrev pub DropsFrom : List Access → ℕ → Type 0

@@ -23,6 +23,11 @@ reads_of (Found first second) = []
 abbrev pub reader_count : Kept → ℕ
 reader_count kept = length (reads_of kept)
 
+-- while there was no race, the reads are said to rise
+abbrev pub RisesIfClean : Kept → Bool → Type 0
+RisesIfClean (Clean writer readers) rise = rise ≡ true
+RisesIfClean (Found first second) rise = Unit {0}
+
 -- there is room for one more read
 abbrev pub HasRoom : Logged → Type 0
 HasRoom l = reader_count l.kept < l.room

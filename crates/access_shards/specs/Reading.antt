@@ -1,5 +1,5 @@
 -- What becomes of the reads that are kept where one more is kept.
-use Rattle.std.specs.Prelude.{◌≡◌, ℕ, ◌<◌, Bool, true, List, [], ◌∷◌, ◌++◌, ◌⊎◌, take, drop}
+use Rattle.std.specs.Prelude.{◌≡◌, ℕ, ◌<◌, Bool, true, List, [], ◌∷◌, ◌++◌, ◌⊎◌, take, drop, vec_len, vec_capacity}
 use Rattle.fut_base.specs.declared.event.Event.{Event}
 use Rattle.fut_base.specs.Dag.{Among, ReachesBy, edges_of}
 use Rattle.fut_base.specs.Orders.{stands_before}
@@ -7,7 +7,9 @@ use Rattle.strand_tree.specs.declared.strand.Strand.{Strand}
 use Rattle.access_shards.specs.declared.kept.Access.{Access}
 use Rattle.access_shards.specs.Kept.{IsViewOf}
 use Rattle.access_shards.specs.Finding.{IsApart, AreOf, AreThoseApart}
-use Rattle.access_shards.specs.Logged.{RiseInEnglish}
+use Rattle.access_shards.specs.declared.kept.Kept.{Kept}
+use Rattle.access_shards.specs.declared.kept.Kept.TheVariants.{Clean, Found}
+use Rattle.access_shards.specs.Logged.{Logged, reads_of, RiseInEnglish}
 
 -- a strand is of the future of another one, and is it or stands before it in a list
 pub record IsNotAfter (english : List ℕ) (u v : Strand) : Type 0 where
@@ -17,6 +19,17 @@ pub record IsNotAfter (english : List ℕ) (u v : Strand) : Type 0 where
 -- the last of these accesses, where there is one, is on such a strand
 abbrev pub EndsBefore : List ℕ → Strand → List Access → Type 0
 EndsBefore english at all = (before : List Access) (last : Access) → all ≡ before ++ last ∷ [] → IsNotAfter english last.strand at
+
+-- a strand comes after the reads of a log in the English order of one future: they are said to rise, and the last of them
+-- is on such a strand
+pub record ComesAfter (english : List ℕ) (at : Strand) (l : Logged) : Type 0 where
+  pub rise_is : l.rise ≡ true
+  pub last : EndsBefore english at (reads_of l.kept)
+
+-- the list of the reads that are kept is not full
+abbrev pub IsNotFull : Kept → Type 0
+IsNotFull (Clean writer readers) = vec_len readers < vec_capacity readers
+IsNotFull (Found first second) = Unit {0}
 
 -- a strand is reached from each of these accesses but the first n, and not from the last of those
 pub record IsDropped (s : List Event) (at : Strand) (all : List Access) (n : ℕ) : Type 0 where

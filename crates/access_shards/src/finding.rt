@@ -1,7 +1,7 @@
 //! From which kept accesses a strand is not reached.
 ghost use Rattle.std.specs.Prelude.{◌≡◌, ℕ, ◌+◌, ◌<◌, ◌≤◌, List, [], ◌∷◌, ◌++◌, ◌⊎◌, length, option_to_list, vec_len, vec_capacity, IfOk, IfErr, OnOk, OnErr};
 ghost use Rattle.fut_base.specs.Dag.{Among};
-ghost use Rattle.reach_table.specs.Telling.{AllKnown, HasMovedLast};
+ghost use Rattle.reach_table.specs.Telling.{AllKnown, HasMovedLast, AsksAtMost};
 ghost use Rattle.access_shards.specs.declared.kept.Access.{Access};
 ghost use Rattle.access_shards.specs.Kept.{all_kept};
 ghost use Rattle.access_shards.specs.Finding.{AllOnKnown, FindsLast, LooksOn, KeepsApart, FindsApart};
@@ -25,6 +25,7 @@ fn look_on<J: Judge>(
     ensures looks { IfOk result (λ next. LooksOn reach.now at (J.known judge.old) (J.english judge.old) (J.hebrew judge.old) access found next) }
     ensures moved { IfErr result (λ moved. HasMovedLast moved (J.may_move judge.old) (J.loaded judge.old) (J.loaded judge.new)) }
     ensures loads { (more : List ℕ) × (J.loaded judge.new ≡ J.loaded judge.old ++ more) }
+    ensures asks { AsksAtMost reach.now 1 (J.asked judge.old) (J.asked judge.new) }
     ensures known { J.known judge.new ≡ J.known judge.old }
     ensures english { J.english judge.new ≡ J.english judge.old }
     ensures hebrew { J.hebrew judge.new ≡ J.hebrew judge.old }
@@ -51,6 +52,7 @@ pub fn unreached_writer<J: Judge>(
     ensures finds { IfOk result (λ found. FindsLast reach.now at (J.known judge.old) (J.english judge.old) (J.hebrew judge.old) (option_to_list writer) found) }
     ensures moved { IfErr result (λ moved. HasMovedLast moved (J.may_move judge.old) (J.loaded judge.old) (J.loaded judge.new)) }
     ensures loads { (more : List ℕ) × (J.loaded judge.new ≡ J.loaded judge.old ++ more) }
+    ensures asks { AsksAtMost reach.now 1 (J.asked judge.old) (J.asked judge.new) }
     ensures known { J.known judge.new ≡ J.known judge.old }
     ensures english { J.english judge.new ≡ J.english judge.old }
     ensures hebrew { J.hebrew judge.new ≡ J.hebrew judge.old }
@@ -77,6 +79,7 @@ pub fn last_unreached<J: Judge>(
     ensures finds { IfOk result (λ found. FindsLast reach.now at (J.known judge.old) (J.english judge.old) (J.hebrew judge.old) (all_kept writer readers.now) found) }
     ensures moved { IfErr result (λ moved. HasMovedLast moved (J.may_move judge.old) (J.loaded judge.old) (J.loaded judge.new)) }
     ensures loads { (more : List ℕ) × (J.loaded judge.new ≡ J.loaded judge.old ++ more) }
+    ensures asks { AsksAtMost reach.now (length readers.now + 1) (J.asked judge.old) (J.asked judge.new) }
     ensures known { J.known judge.new ≡ J.known judge.old }
     ensures english { J.english judge.new ≡ J.english judge.old }
     ensures hebrew { J.hebrew judge.new ≡ J.hebrew judge.old }
@@ -108,6 +111,7 @@ fn keep_unreached<J: Judge>(
     ensures capacity { vec_capacity left.new ≡ vec_capacity left.old }
     ensures moved { IfErr result (λ moved. HasMovedLast moved (J.may_move judge.old) (J.loaded judge.old) (J.loaded judge.new)) }
     ensures loads { (more : List ℕ) × (J.loaded judge.new ≡ J.loaded judge.old ++ more) }
+    ensures asks { AsksAtMost reach.now 1 (J.asked judge.old) (J.asked judge.new) }
     ensures known { J.known judge.new ≡ J.known judge.old }
     ensures english { J.english judge.new ≡ J.english judge.old }
     ensures hebrew { J.hebrew judge.new ≡ J.hebrew judge.old }
@@ -139,6 +143,7 @@ fn collect_unreached<J: Judge>(
     ensures capacity { vec_capacity left.new ≡ vec_capacity left.old }
     ensures moved { IfErr result (λ moved. HasMovedLast moved (J.may_move judge.old) (J.loaded judge.old) (J.loaded judge.new)) }
     ensures loads { (more : List ℕ) × (J.loaded judge.new ≡ J.loaded judge.old ++ more) }
+    ensures asks { AsksAtMost reach.now (length readers.now) (J.asked judge.old) (J.asked judge.new) }
     ensures known { J.known judge.new ≡ J.known judge.old }
     ensures english { J.english judge.new ≡ J.english judge.old }
     ensures hebrew { J.hebrew judge.new ≡ J.hebrew judge.old }
@@ -172,6 +177,7 @@ pub fn take_unreached<J: Judge>(
     ensures none { OnErr result (left.new.items ≡ []) }
     ensures moved { IfErr result (λ moved. HasMovedLast moved (J.may_move judge.old) (J.loaded judge.old) (J.loaded judge.new)) }
     ensures loads { (more : List ℕ) × (J.loaded judge.new ≡ J.loaded judge.old ++ more) }
+    ensures asks { AsksAtMost reach.now (length readers.now) (J.asked judge.old) (J.asked judge.new) }
     ensures known { J.known judge.new ≡ J.known judge.old }
     ensures english { J.english judge.new ≡ J.english judge.old }
     ensures hebrew { J.hebrew judge.new ≡ J.hebrew judge.old }

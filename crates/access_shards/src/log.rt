@@ -1,10 +1,11 @@
 //! The accesses of one cell, as far as they are remembered.
-ghost use Rattle.std.specs.Prelude.{◌≡◌, ℕ, ◌<◌, ◌++◌, List, [], None, OnOk, OnErr, IfErr};
-ghost use Rattle.reach_table.specs.Telling.{AllKnown, HasMovedLast};
+ghost use Rattle.std.specs.Prelude.{◌≡◌, ℕ, ◌+◌, ◌<◌, ◌++◌, true, List, [], None, OnOk, OnErr, IfErr};
+ghost use Rattle.reach_table.specs.Telling.{AllKnown, HasMovedLast, AsksAtMost};
 ghost use Rattle.access_shards.specs.declared.kept.Kept.{Kept};
 ghost use Rattle.access_shards.specs.Kept.{reading, writing, AreKnown, StrandsStay, IsNew};
 ghost use Rattle.fut_base.specs.declared.event.Event.{Event};
-ghost use Rattle.access_shards.specs.Logged.{HasRoom, IsLogOf, KeepsOneMore};
+ghost use Rattle.access_shards.specs.Reading.{ComesAfter, IsNotFull};
+ghost use Rattle.access_shards.specs.Logged.{HasRoom, IsLogOf, KeepsOneMore, reader_count, RisesIfClean};
 
 use crate::finding::{last_unreached, unreached_writer};
 use crate::kept::{Access, Kept};
@@ -42,6 +43,7 @@ impl CellLog {
     pub fn make(alloc: Global) -> CellLog
         ensures new { IsNew result.kept }
         ensures log { (s : List Event) → IsLogOf s [] result }
+        ensures rise { result.rise ≡ true }
     {
         CellLog {
             alloc,
@@ -77,9 +79,9 @@ impl CellLog {
     }
 
     /// Keeps a read at a place above all earlier ones, on strand `at`, whose table `reach` is. It tries at most once for
-    /// each kept access whether a path leads from it, asks once more for the last, and takes no memory. Where reads come in
-    /// the English order of one future that is amortised constant time. After `Moved` nothing is changed, and the room still
-    /// stands.
+    /// each kept access whether a path leads from it, asks once more for the last, and takes no memory. Where the read comes
+    /// after the kept ones in the English order of one future, and their list is not full, each question after the fourth
+    /// drops one of them: that is amortised constant time. After `Moved` nothing is changed, and the room still stands.
     pub fn read<J: Judge>(
         &mut self,
         judge: &mut J,
@@ -93,11 +95,17 @@ impl CellLog {
         requires kept_known { AreKnown (J.known judge.old) self.old.kept }
         ensures kept { OnOk result (KeepsOneMore reach.now at place reading (J.known judge.old) (J.english judge.old) (J.hebrew judge.old) self.old self.new) }
         ensures strands { OnOk result (StrandsStay at self.old.kept self.new.kept) }
+        ensures rise { ComesAfter (J.english judge.old) at self.old → OnOk result (self.new.rise ≡ true) }
         ensures unchanged { OnErr result (self.new ≡ self.old) }
         ensures moved { IfErr result (λ moved. HasMovedLast moved (J.may_move judge.old) (J.loaded judge.old) (J.loaded judge.new)) }
 
         // What the judge loads is added at the end.
         ensures loads { (more : List ℕ) × (J.loaded judge.new ≡ J.loaded judge.old ++ more) }
+
+        // How often the judge is asked.
+        ensures asks { AsksAtMost reach.now (reader_count self.old.kept + 2) (J.asked judge.old) (J.asked judge.new) }
+        ensures drops_each { ComesAfter (J.english judge.old) at self.old → IsNotFull self.old.kept
+            → OnOk result (AsksAtMost reach.now (reader_count self.old.kept + 4) (J.asked judge.old) (J.asked judge.new + reader_count self.new.kept)) }
 
         // The rest of the judge stays.
         ensures known { J.known judge.new ≡ J.known judge.old }
@@ -137,11 +145,15 @@ impl CellLog {
         requires kept_known { AreKnown (J.known judge.old) self.old.kept }
         ensures kept { OnOk result (KeepsOneMore reach.now at place writing (J.known judge.old) (J.english judge.old) (J.hebrew judge.old) self.old self.new) }
         ensures strands { OnOk result (StrandsStay at self.old.kept self.new.kept) }
+        ensures rise { OnOk result (RisesIfClean self.new.kept self.new.rise) }
         ensures unchanged { OnErr result (self.new ≡ self.old) }
         ensures moved { IfErr result (λ moved. HasMovedLast moved (J.may_move judge.old) (J.loaded judge.old) (J.loaded judge.new)) }
 
         // What the judge loads is added at the end.
         ensures loads { (more : List ℕ) × (J.loaded judge.new ≡ J.loaded judge.old ++ more) }
+
+        // How often the judge is asked.
+        ensures asks { AsksAtMost reach.now (reader_count self.old.kept + 1) (J.asked judge.old) (J.asked judge.new) }
 
         // The rest of the judge stays.
         ensures known { J.known judge.new ≡ J.known judge.old }

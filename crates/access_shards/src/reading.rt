@@ -1,7 +1,7 @@
 //! Which reads are kept with one more.
-ghost use Rattle.std.specs.Prelude.{◌≡◌, ℕ, ◌<◌, ◌≤◌, List, [], ◌++◌, ◌⊎◌, true, length, vec_len, vec_capacity, IfOk, IfErr, OnOk, OnErr};
+ghost use Rattle.std.specs.Prelude.{◌≡◌, ℕ, ◌+◌, ◌<◌, ◌≤◌, List, [], ◌++◌, ◌⊎◌, true, length, vec_len, vec_capacity, IfOk, IfErr, OnOk, OnErr};
 ghost use Rattle.fut_base.specs.Dag.{Among};
-ghost use Rattle.reach_table.specs.Telling.{AllKnown, HasMovedLast};
+ghost use Rattle.reach_table.specs.Telling.{AllKnown, HasMovedLast, AsksAtMost};
 ghost use Rattle.access_shards.specs.declared.kept.Access.{Access};
 ghost use Rattle.access_shards.specs.Finding.{AllOnKnown};
 ghost use Rattle.access_shards.specs.Reading.{EndsBefore, DropsEnd, KeepsAll, KeepsRead};
@@ -24,8 +24,10 @@ fn ends_before<J: Judge>(
     requires at_known { at.number < J.known judge.old }
     requires kept_known { AllOnKnown (J.known judge.old) readers.now }
     ensures tells { IfOk result (λ yes. yes ≡ true → (rise ≡ true) × EndsBefore (J.english judge.old) at readers.now) }
+    ensures always { IfOk result (λ yes. rise ≡ true → EndsBefore (J.english judge.old) at readers.now → yes ≡ true) }
     ensures moved { IfErr result (λ moved. HasMovedLast moved (J.may_move judge.old) (J.loaded judge.old) (J.loaded judge.new)) }
     ensures loads { (more : List ℕ) × (J.loaded judge.new ≡ J.loaded judge.old ++ more) }
+    ensures asks { J.asked judge.new ≤ J.asked judge.old + 1 }
     ensures known { J.known judge.new ≡ J.known judge.old }
     ensures english { J.english judge.new ≡ J.english judge.old }
     ensures hebrew { J.hebrew judge.new ≡ J.hebrew judge.old }
@@ -64,6 +66,8 @@ fn count_left<J: Judge>(
     ensures drops { IfOk result (λ left. DropsEnd reach.now at (J.known judge.old) (J.english judge.old) (J.hebrew judge.old) readers.now left) }
     ensures moved { IfErr result (λ moved. HasMovedLast moved (J.may_move judge.old) (J.loaded judge.old) (J.loaded judge.new)) }
     ensures loads { (more : List ℕ) × (J.loaded judge.new ≡ J.loaded judge.old ++ more) }
+    ensures asks { AsksAtMost reach.now (length readers.now) (J.asked judge.old) (J.asked judge.new) }
+    ensures drops_each { IfOk result (λ left. AsksAtMost reach.now (length readers.now + 1) (J.asked judge.old) (J.asked judge.new + left)) }
     ensures known { J.known judge.new ≡ J.known judge.old }
     ensures english { J.english judge.new ≡ J.english judge.old }
     ensures hebrew { J.hebrew judge.new ≡ J.hebrew judge.old }
@@ -98,6 +102,8 @@ fn replace_end<J: Judge>(
     ensures unchanged { OnErr result (readers.new ≡ readers.old) }
     ensures moved { IfErr result (λ moved. HasMovedLast moved (J.may_move judge.old) (J.loaded judge.old) (J.loaded judge.new)) }
     ensures loads { (more : List ℕ) × (J.loaded judge.new ≡ J.loaded judge.old ++ more) }
+    ensures asks { AsksAtMost reach.now (vec_len readers.old) (J.asked judge.old) (J.asked judge.new) }
+    ensures drops_each { OnOk result (AsksAtMost reach.now (vec_len readers.old + 2) (J.asked judge.old) (J.asked judge.new + vec_len readers.new)) }
     ensures known { J.known judge.new ≡ J.known judge.old }
     ensures english { J.english judge.new ≡ J.english judge.old }
     ensures hebrew { J.hebrew judge.new ≡ J.hebrew judge.old }
@@ -131,6 +137,7 @@ fn replace_all<J: Judge>(
     ensures capacity { OnErr result (vec_capacity room.new ≡ vec_capacity room.old) }
     ensures moved { IfErr result (λ moved. HasMovedLast moved (J.may_move judge.old) (J.loaded judge.old) (J.loaded judge.new)) }
     ensures loads { (more : List ℕ) × (J.loaded judge.new ≡ J.loaded judge.old ++ more) }
+    ensures asks { AsksAtMost reach.now (vec_len readers.old) (J.asked judge.old) (J.asked judge.new) }
     ensures known { J.known judge.new ≡ J.known judge.old }
     ensures english { J.english judge.new ≡ J.english judge.old }
     ensures hebrew { J.hebrew judge.new ≡ J.hebrew judge.old }
@@ -162,12 +169,16 @@ pub fn keep_read<J: Judge>(
     requires empty { room.old.items ≡ [] }
     requires room { vec_len readers.old < vec_capacity room.old }
     ensures keeps { IfOk result (λ rises. KeepsRead reach.now new (J.known judge.old) (J.english judge.old) (J.hebrew judge.old) rise readers.old.items rises readers.new.items) }
+    ensures rises { IfOk result (λ rises. rise ≡ true → EndsBefore (J.english judge.old) new.strand readers.old.items → rises ≡ true) }
     ensures those { (a : Access) → Among a readers.new.items → Among a readers.old.items ⊎ (new ≡ a) }
     ensures emptied { room.new.items ≡ [] }
     ensures unchanged { OnErr result (readers.new ≡ readers.old) }
     ensures capacity { OnErr result (vec_capacity room.new ≡ vec_capacity room.old) }
     ensures moved { IfErr result (λ moved. HasMovedLast moved (J.may_move judge.old) (J.loaded judge.old) (J.loaded judge.new)) }
     ensures loads { (more : List ℕ) × (J.loaded judge.new ≡ J.loaded judge.old ++ more) }
+    ensures asks { AsksAtMost reach.now (vec_len readers.old + 1) (J.asked judge.old) (J.asked judge.new) }
+    ensures drops_each { rise ≡ true → EndsBefore (J.english judge.old) new.strand readers.old.items → vec_len readers.old < vec_capacity readers.old
+        → OnOk result (AsksAtMost reach.now (vec_len readers.old + 3) (J.asked judge.old) (J.asked judge.new + vec_len readers.new)) }
     ensures known { J.known judge.new ≡ J.known judge.old }
     ensures english { J.english judge.new ≡ J.english judge.old }
     ensures hebrew { J.hebrew judge.new ≡ J.hebrew judge.old }

@@ -4,16 +4,17 @@ ghost use Rattle.access_shards.specs.Kept.{AreKnown};
 
 use crate::kept::{Access, Kept};
 use crate::log::CellLog;
-use order_list::Still;
 use reach_table::Reach;
 use std::alloc::Global;
 use std::process::Abort;
 use std::test::Fail;
 use strand_tree::Strand;
 
+mod counted;
 mod plain;
 mod worked;
 
+use counted::Counted;
 use plain::{Plain, Touch, recompute};
 use worked::{Step, Worked, are_known, work};
 
@@ -34,34 +35,34 @@ fn write(strand: usize) -> Touch {
 // Keeps an access on a strand with this table.
 fn keep(
     log: &mut CellLog,
-    still: &mut Still,
+    judge: &mut Counted,
     at: Strand,
     reach: &Reach,
     place: u32,
     writes: bool,
 ) -> Result<(), Fail>
-    requires { AreKnown (length still.old.english.order) log.old.kept }
-    ensures { OnOk result (AreKnown (length still.new.english.order) log.new.kept) }
+    requires { AreKnown (length judge.old.lists.english.order) log.old.kept }
+    ensures { OnOk result (AreKnown (length judge.new.lists.english.order) log.new.kept) }
 {
-    if at.number >= still.english().len() {
+    if at.number >= judge.lists.english().len() {
         return Err("no such strand")?;
     }
-    if !are_known(still, reach.strands()) {
+    if !are_known(&judge.lists, reach.strands()) {
         return Err("no such strand")?;
     }
     log.reserve()?;
     if writes {
-        log.write(still, reach, at, place)?;
+        log.write(judge, reach, at, place)?;
         return Ok(());
     }
-    log.read(still, reach, at, place)?;
+    log.read(judge, reach, at, place)?;
     Ok(())
 }
 
 // The log of a cell with these accesses, at places from 0 on.
 fn log_of(
     alloc: Global,
-    still: &mut Still,
+    judge: &mut Counted,
     run: &Worked,
     touches: &[Touch],
 ) -> Result<CellLog, Fail> {
@@ -72,7 +73,7 @@ fn log_of(
         else {
             return Err("no such strand")?;
         };
-        keep(&mut log, still, *at, reach, place, touch.writes)?;
+        keep(&mut log, judge, *at, reach, place, touch.writes)?;
         place = place.saturating_add(1);
     }
     Ok(log)
@@ -100,10 +101,29 @@ fn places_of(alloc: Global, kept: &Kept) -> Result<Plain, Fail> {
 
 // What a log keeps of these accesses in the run of these steps, and what has to be kept.
 fn both(alloc: Global, steps: &[Step], touches: &[Touch]) -> Result<(Plain, Plain), Fail> {
-    let (mut still, run) = work(alloc, steps)?;
-    let log = log_of(alloc, &mut still, &run, touches)?;
+    let (lists, run) = work(alloc, steps)?;
+    let mut judge = Counted { lists, asked: 0 };
+    let log = log_of(alloc, &mut judge, &run, touches)?;
     let expected = recompute(alloc, run.edges.as_slice(), run.strands.len(), touches)?;
     Ok((places_of(alloc, log.kept())?, expected))
+}
+
+// The reads of 2,000 spawned children rise, and none drops another. Kept reads are looked at again only where their list is
+// full, which is then made twice as long.
+#[test]
+fn few_questions_are_asked(rt: HostRuntime) -> Result<(), Fail> {
+    let mut steps = Vec::new(rt.alloc());
+    let mut touches = Vec::new(rt.alloc());
+    for k in 0..2000 {
+        steps.push(Step::Spawn(2 * k))?;
+        touches.push(read(2 * k + 1))?;
+    }
+    let (lists, run) = work(rt.alloc(), steps.as_slice())?;
+    let mut judge = Counted { lists, asked: 0 };
+    log_of(rt.alloc(), &mut judge, &run, touches.as_slice())?;
+    let asked = judge.asked;
+    assert!(rt; asked >= 2000 && asked <= 4 * 2000, "{asked} questions");
+    Ok(())
 }
 
 #[test]

@@ -1,5 +1,5 @@
 //! What tells in which order two items stand.
-ghost use Rattle.std.specs.Prelude.{◌≡◌, ℕ, ◌<◌, ◌++◌, Bool, List, IfOk, IfErr};
+ghost use Rattle.std.specs.Prelude.{◌≡◌, ℕ, ◌+◌, ◌<◌, ◌≤◌, ◌++◌, Bool, List, IfOk, IfErr};
 
 use crate::item::Item;
 
@@ -39,6 +39,9 @@ pub trait Judge {
     /// The versions that it has loaded, in order.
     ghost loaded: { Self → List ℕ };
 
+    /// How often it was asked, by any count that a question raises by one at most.
+    ghost asked: { Self → ℕ };
+
     ghost home: { Self → Self.Home };
 
     /// How x and y stand in both lists, or that labels were made anew meanwhile. It takes no memory.
@@ -50,6 +53,8 @@ pub trait Judge {
 
         // What it loads is added at the end.
         ensures loads { (more : List ℕ) × (loaded self.new ≡ loaded self.old ++ more) }
+
+        ensures asks { asked self.new ≤ asked self.old + 1 }
 
         // The rest stays.
         ensures known { known self.new ≡ known self.old }

@@ -96,6 +96,8 @@ impl Judge for Still {
 
     ghost loaded = { λ _. [] };
 
+    ghost asked = { λ _. 0 };
+
     ghost home = { λ s. s.english.room };
 
     fn try_sides(&mut self, x: Item, y: Item) -> Result<Sides, Moved>

@@ -139,6 +139,8 @@ impl Judge for Places {
 
     ghost loaded = { λ _. [] };
 
+    ghost asked = { λ _. 0 };
+
     ghost home = { λ p. p.room };
 
     fn try_sides(&mut self, x: Item, y: Item) -> Result<Sides, Moved>

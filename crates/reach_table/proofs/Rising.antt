@@ -1,5 +1,5 @@
 -- Lists of strands that rise, by future and then by number.
-use Rattle.std.proofs.Common.{◌≡◌, ◌≢◌, ℕ, zero, suc, ◌+◌, ◌<◌, ◌≤◌, List, [], ◌∷◌, ◌++◌, length, get_or, take, drop, inl, inr, subst, sym, arith}
+use Rattle.std.proofs.Common.{◌≡◌, ◌≢◌, ℕ, zero, suc, ◌+◌, ◌<◌, ◌≤◌, List, [], ◌∷◌, ◌++◌, length, get_or, take, drop, inl, inr, refl, subst, sym, arith, ◌∙◌}
 use Rattle.std.specs.Prelude.{◌↔◌}
 use Rattle.std.proofs.lemmas.List.{take-append-drop}
 use Rattle.fut_base.specs.Dag.{Among}
@@ -7,6 +7,7 @@ use Rattle.strand_laws.proofs.Places.{among_or, among_left, among_right, same_or
 use Rattle.strand_laws.proofs.Worlds.{lt_or_le}
 use Rattle.strand_tree.specs.declared.strand.Strand.{Strand}
 use Rattle.reach_table.specs.Sorted.{IsBelow, IsRising}
+use Rattle.reach_table.specs.Telling.{HasOneOfEach}
 use Rattle.reach_table.proofs.Members.{same_strand, at_place, in_take_or_drop, from_take, from_drop}
 
 pub below_trans : (x y z : Strand) → IsBelow x y → IsBelow y z → IsBelow x z
@@ -105,3 +106,17 @@ between xs rest low count f is before after until past w = (
     ]
   ],
 )
+
+below_none : (x : Strand) → IsBelow x x → ⊥
+below_none x (inl a) = omega arith
+below_none x (inr a) = let k = a.1 in omega (arith, k)
+
+-- of a table with at most one strand of each future, one at most is of this future
+pub lone : (table ws : List Strand) (f : ℕ) → HasOneOfEach table → IsRising ws → ((w : Strand) → Among w ws → Among w table × (w.future ≡ f)) → length ws ≤ 1
+lone table [] f one r home = omega arith
+lone table (x ∷ []) f one r home = omega arith
+lone table (x ∷ y ∷ ys) f one r home =
+    let a = home x (inl refl) in
+    let b = home y (inr (inl refl)) in
+    let same : x ≡ y = one x y a.0 b.0 (a.1 ∙ sym b.1) in
+    absurd (below_none x (subst (λ z. IsBelow x z) (sym same) (r.0 y (inl refl))))

@@ -11,7 +11,7 @@ use Rattle.fut_base.specs.Sound.{IsSound, next_strand}
 use Rattle.fut_base.specs.Tables.{lasts_of}
 use Rattle.strand_tree.specs.declared.strand.Strand.{Strand}
 use Rattle.strand_tree.specs.Placing.{IsStrandOf, AreOrders}
-use Rattle.reach_table.specs.Telling.{HasTable, OrdersAgree}
+use Rattle.reach_table.specs.Telling.{HasTable, HasOneOfEach, OrdersAgree}
 use Rattle.reach_table.specs.Merging.{IsMergedOf}
 
 -- some structural events and one more, by an action of a task on a strand
@@ -93,4 +93,4 @@ TableTells =
 abbrev pub OneOfEach : Type 0
 OneOfEach =
     (s : List Event) (v : ℕ) (table : List Strand) → IsSound s → v < next_strand (reverse s) → HasTable s v table
-    → (w x : Strand) → Among w table → Among x table → w.future ≡ x.future → w ≡ x
+    → HasOneOfEach table

@@ -1,5 +1,5 @@
 -- What a table is, and what an answer tells of paths.
-use Rattle.std.specs.Prelude.{◌≡◌, ◌≢◌, ℕ, ◌%◌, ◌<◌, Bool, true, ◌↔◌, ◌⊎◌, List, [], ◌∷◌, ◌++◌, map, reverse}
+use Rattle.std.specs.Prelude.{◌≡◌, ◌≢◌, ℕ, ◌+◌, ◌%◌, ◌<◌, ◌≤◌, Bool, true, ◌↔◌, ◌⊎◌, List, [], ◌∷◌, ◌++◌, map, reverse}
 use Rattle.order_list.specs.declared.judge.Moved.{Moved}
 use Rattle.fut_base.specs.declared.event.Event.{Event}
 use Rattle.fut_base.specs.Dag.{Among, ReachesBy, edges_past}
@@ -51,3 +51,11 @@ IsOrPrecedes english hebrew x y = (x ≡ y) ⊎ ((stands_before x y english ≡ 
 -- x is one of these strands, or stands before one of them in both lists
 abbrev pub ReachesOne : List ℕ → List ℕ → ℕ → List Strand → Type 0
 ReachesOne english hebrew x ws = (w : Strand) × Among w ws × IsOrPrecedes english hebrew x w.number
+
+-- the list has at most one strand of each future
+abbrev pub HasOneOfEach : List Strand → Type 0
+HasOneOfEach ws = (w x : Strand) → Among w ws → Among x ws → w.future ≡ x.future → w ≡ x
+
+-- by a table with at most one strand of each future, a judge that was asked so often before was asked n times more at most
+abbrev pub AsksAtMost : List Strand → ℕ → ℕ → ℕ → Type 0
+AsksAtMost table n before after = HasOneOfEach table → after ≤ before + n

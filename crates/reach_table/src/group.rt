@@ -1,5 +1,5 @@
 //! The strands of one future in a table, and whether one of them is reached.
-ghost use Rattle.std.specs.Prelude.{◌≡◌, ℕ, ◌<◌, ◌≤◌, ◌++◌, ◌↔◌, true, List, length, take, drop, IfOk, IfErr};
+ghost use Rattle.std.specs.Prelude.{◌≡◌, ℕ, ◌+◌, ◌<◌, ◌≤◌, ◌++◌, ◌↔◌, true, List, length, take, drop, IfOk, IfErr};
 ghost use Rattle.fut_base.specs.Dag.{Among};
 ghost use Rattle.strand_tree.specs.declared.strand.Strand.{Strand};
 ghost use Rattle.reach_table.specs.Sorted.{IsRising};
@@ -31,7 +31,8 @@ fn first_from(strands: &[Strand], bound: u64) -> usize
 /// The strands of one future, found by binary search.
 pub fn of_future(strands: &[Strand], future: u32) -> &[Strand]
     requires { IsRising strands.now }
-    ensures { (w : Strand) → Among w result.now ↔ (Among w strands.now × (w.future ≡ future)) }
+    ensures rising { IsRising result.now }
+    ensures strands { (w : Strand) → Among w result.now ↔ (Among w strands.now × (w.future ≡ future)) }
 {
     let bound = u64::from(future);
     let rest = &strands[first_from(strands, bound)..];
@@ -45,6 +46,7 @@ pub fn is_or_precedes<J: Judge>(judge: &mut J, u: Strand, w: Strand) -> Result<b
     ensures tells { IfOk result (λ yes. (yes ≡ true) ↔ IsOrPrecedes (J.english judge.old) (J.hebrew judge.old) u.number w.number) }
     ensures moved { IfErr result (λ moved. HasMovedLast moved (J.may_move judge.old) (J.loaded judge.old) (J.loaded judge.new)) }
     ensures loads { (more : List ℕ) × (J.loaded judge.new ≡ J.loaded judge.old ++ more) }
+    ensures asks { J.asked judge.new ≤ J.asked judge.old + 1 }
     ensures known { J.known judge.new ≡ J.known judge.old }
     ensures english { J.english judge.new ≡ J.english judge.old }
     ensures hebrew { J.hebrew judge.new ≡ J.hebrew judge.old }
@@ -65,6 +67,7 @@ pub fn reaches_one<J: Judge>(judge: &mut J, u: Strand, strands: &[Strand]) -> Re
     ensures tells { IfOk result (λ yes. (yes ≡ true) ↔ ReachesOne (J.english judge.old) (J.hebrew judge.old) u.number strands.now) }
     ensures moved { IfErr result (λ moved. HasMovedLast moved (J.may_move judge.old) (J.loaded judge.old) (J.loaded judge.new)) }
     ensures loads { (more : List ℕ) × (J.loaded judge.new ≡ J.loaded judge.old ++ more) }
+    ensures asks { J.asked judge.new ≤ J.asked judge.old + length strands.now }
     ensures known { J.known judge.new ≡ J.known judge.old }
     ensures english { J.english judge.new ≡ J.english judge.old }
     ensures hebrew { J.hebrew judge.new ≡ J.hebrew judge.old }

@@ -4,7 +4,7 @@ ghost use Rattle.order_list.specs.Sides.{Lists};
 ghost use Rattle.fut_base.specs.Dag.{Among};
 ghost use Rattle.strand_tree.specs.declared.strand.Strand.{Strand};
 ghost use Rattle.reach_table.specs.Sorted.{IsRising};
-ghost use Rattle.reach_table.specs.Telling.{HasTable, AllKnown, TellsReach, HasMovedLast};
+ghost use Rattle.reach_table.specs.Telling.{HasTable, AllKnown, TellsReach, HasMovedLast, AsksAtMost};
 ghost use Rattle.reach_table.specs.Merging.{together, IsGreatest};
 ghost use Rattle.reach_table.specs.Tabled.{AfterSpawn, AfterCreate, KidAfterCreate, AfterGet, MergesOneMore};
 
@@ -106,7 +106,7 @@ impl Reach {
 
     /// Whether u is v or a path leads from u to v, whose table this is, by a judge that knows u, v and the strands of the
     /// table. It asks the judge once where the futures agree, and else at most once for each strand of the table that is
-    /// of u's future; it takes no memory.
+    /// of u's future, of which a strand's table has one at most; it takes no memory.
     pub fn try_reaches<J: Judge>(&self, judge: &mut J, u: Strand, v: Strand) -> Result<bool, Moved>
         requires u_known { u.number < J.known judge.old }
         requires v_known { v.number < J.known judge.old }
@@ -116,6 +116,8 @@ impl Reach {
 
         // What the judge loads is added at the end.
         ensures loads { (more : List ℕ) × (J.loaded judge.new ≡ J.loaded judge.old ++ more) }
+
+        ensures asks { AsksAtMost self.now 1 (J.asked judge.old) (J.asked judge.new) }
 
         // The rest of the judge stays.
         ensures known { J.known judge.new ≡ J.known judge.old }

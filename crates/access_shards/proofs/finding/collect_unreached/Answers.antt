@@ -36,4 +36,5 @@ loop-reader-preserved g c =
         | inl l ↦ i.9 b l
         | inr q ↦ subst (λ z. Among z c.args.readers.now) q (at_place c.args.readers.now c.loop-reader.reader-index _ c.loop-reader-test.true)
       ],
+      λ one. (let x = i.10 one in let y = e.asks one in omega (arith, x, y)),
     )

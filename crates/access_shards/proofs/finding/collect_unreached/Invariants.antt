@@ -1,5 +1,6 @@
 use Rattle.std.proofs.Common.{◌≡◌, ℕ, ◌≤◌, List, ◌++◌, take, vec_len, vec_capacity}
 use Rattle.fut_base.specs.Dag.{Among}
+use Rattle.reach_table.specs.Telling.{AsksAtMost}
 use Rattle.access_shards.specs.declared.kept.Access.{Access}
 use Rattle.access_shards.specs.Finding.{FindsApart}
 use Rattle.access_shards.proofs.finding.collect_unreached.Given as goal
@@ -16,3 +17,4 @@ invariant-loop-reader g l =
     × (g.J.Judge.may_move l.judge ≡ g.J.Judge.may_move l.initial.judge)
     × (g.J.Judge.home l.judge ≡ g.J.Judge.home l.initial.judge)
     × ((a : Access) → Among a l.left.items → Among a l.readers)
+    × AsksAtMost l.reach l.reader-index (g.J.Judge.asked l.initial.judge) (g.J.Judge.asked l.judge)

@@ -35,4 +35,5 @@ loop-reader-preserved g c =
       e.hebrew ∙ i.4,
       e.may_move ∙ i.5,
       e.home ∙ i.6,
+      λ one. (let a = i.7 one in let b = e.asks one in omega (arith, a, b)),
     )

@@ -1,4 +1,5 @@
-use Rattle.std.proofs.Common.{◌≡◌, ℕ, List, ◌++◌, take}
+use Rattle.std.proofs.Common.{◌≡◌, ℕ, ◌+◌, List, ◌++◌, take}
+use Rattle.reach_table.specs.Telling.{AsksAtMost}
 use Rattle.access_shards.specs.Kept.{all_kept}
 use Rattle.access_shards.specs.Finding.{FindsLast}
 use Rattle.access_shards.proofs.finding.last_unreached.Given as goal
@@ -12,3 +13,4 @@ invariant-loop-reader g l =
     × (g.J.Judge.hebrew l.judge ≡ g.J.Judge.hebrew l.fn.judge)
     × (g.J.Judge.may_move l.judge ≡ g.J.Judge.may_move l.fn.judge)
     × (g.J.Judge.home l.judge ≡ g.J.Judge.home l.fn.judge)
+    × AsksAtMost l.reach (l.reader-index + 1) (g.J.Judge.asked l.fn.judge) (g.J.Judge.asked l.judge)

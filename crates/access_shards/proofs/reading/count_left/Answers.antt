@@ -31,6 +31,7 @@ loop-left-preserved g c =
       within = omega (arith, i.within);
       drops = drops_more c.args.reach.now c.args.at _ _ _ c.args.readers.now c.loop-left.left none _ _ _ c.in_ok-try_reaches.field-0 i.known i.english i.hebrew (omega (arith, c.loop-left-test.true)) i.within c.in_ok-try_reaches.ensures.tells c.if-not-branch.false i.drops;
       loads = loads_on _ _ _ i.loads e.loads;
+      asks = λ one. (let a = i.asks one in let b = e.asks one in omega (arith, a, b, c.loop-left-test.true));
       known = e.known ∙ i.known;
       english = e.english ∙ i.english;
       hebrew = e.hebrew ∙ i.hebrew;

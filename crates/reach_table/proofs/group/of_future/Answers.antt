@@ -3,7 +3,7 @@ use Rattle.std.specs.Prelude.{◌↔◌}
 use Rattle.fut_base.specs.Dag.{Among}
 use Rattle.strand_tree.specs.declared.strand.Strand.{Strand}
 use Rattle.reach_table.specs.Sorted.{IsRising}
-use Rattle.reach_table.proofs.Rising.{rising_drop, between}
+use Rattle.reach_table.proofs.Rising.{rising_take, rising_drop, between}
 use Rattle.std.proofs.lemmas.List.{take_rest}
 use Rattle.reach_table.proofs.group.of_future.Goals as goal
 
@@ -12,8 +12,11 @@ first_from-requires-2 c =
     let xs = c.args.strands.now in
     subst IsRising (sym (take_rest xs c.first_from.result)) (rising_drop c.first_from.result xs c.requires)
 
-pub returns : goal.returns
-returns c =
+pub returns-clause-rising : goal.returns-clause-rising
+returns-clause-rising c = rising_take _ _ (rising_take _ _ (rising_drop c.first_from.result c.args.strands.now c.requires))
+
+pub returns-clause-strands : goal.returns-clause-strands
+returns-clause-strands c =
     let xs = c.args.strands.now in
     let low = c.first_from.result in
     let e = c.first_from.ensures in

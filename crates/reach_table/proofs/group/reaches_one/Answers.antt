@@ -39,6 +39,7 @@ loop-w-preserved g c =
     record {
       none = one_more (g.J.Judge.english c.args.judge.now) (g.J.Judge.hebrew c.args.judge.now) (g.J.Judge.english c.loop-w.judge) (g.J.Judge.hebrew c.loop-w.judge) c.args.u.number xs c.loop-w.w-index none c.in_ok-is_or_precedes.field-0 (omega arith) v.english v.hebrew v.none e.tells c.if-branch.false;
       loads = loads_after _ _ _ v.loads e.loads;
+      asks = omega (arith, v.asks, e.asks);
       known = e.known ∙ v.known;
       english = e.english ∙ v.english;
       hebrew = e.hebrew ∙ v.hebrew;

@@ -12,9 +12,9 @@ pub precedes_one-requires-clause-at_in : goal.precedes_one-requires-clause-at_in
 precedes_one-requires-clause-at_in c = c.requires.strands_in _ (at_place c.args.strands.now c.args.place (record { number = 0; future = 0 }) c.requires.within)
 
 pub precedes_one-requires-clause-strands_in : goal.precedes_one-requires-clause-strands_in
-precedes_one-requires-clause-strands_in c = λ w a. c.requires.strands_in w ((c.of_future.ensures w).0 a).0
+precedes_one-requires-clause-strands_in c = λ w a. c.requires.strands_in w ((c.of_future.ensures.strands w).0 a).0
 
 pub returns : goal.returns
 returns c =
     let at = strand_at c.args.strands.now c.args.place in
-    greatest_if c.args.lists.now c.args.own at c.args.strands.now c.of_future.result.now c.precedes_one.result (at_place c.args.strands.now c.args.place (record { number = 0; future = 0 }) c.requires.within) c.if-at-own.false c.of_future.ensures c.precedes_one.ensures
+    greatest_if c.args.lists.now c.args.own at c.args.strands.now c.of_future.result.now c.precedes_one.result (at_place c.args.strands.now c.args.place (record { number = 0; future = 0 }) c.requires.within) c.if-at-own.false c.of_future.ensures.strands c.precedes_one.ensures
