@@ -1,8 +1,11 @@
 pub mod Members
 pub mod Rising
+pub mod Runs
+pub mod Inserting
 pub mod Uniting
 pub mod Greatest
 pub mod Leaving
+pub mod Apart
 pub mod Agreeing
 pub mod Putting
 pub mod Reaching

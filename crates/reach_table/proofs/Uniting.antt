@@ -114,16 +114,16 @@ heads one other all i j d li lj u =
     subst Q (drop_more other j d lj) (subst P (drop_more one i d li) u)
 
 module _ (one other all new : List Strand) (i j : ℕ) (d : Strand) (li : i < length one) (lj : j < length other) (u : Unites one other all (drop i one) (drop j other)) where
-  pub step_other : IsBelow (get_or other j d) (get_or one i d) → new ≡ all ++ get_or other j d ∷ [] → Unites one other new (drop i one) (drop (j + 1) other)
-  step_other b is =
-      let k = take_other one other all (get_or one i d) (get_or other j d) _ _ b (heads one other all i j d li lj u) in
+  pub step_other : (IsBelow (get_or one i d) (get_or other j d) → ⊥) → get_or one i d ≢ get_or other j d → new ≡ all ++ get_or other j d ∷ [] → Unites one other new (drop i one) (drop (j + 1) other)
+  step_other off ne is =
+      let k = take_other one other all (get_or one i d) (get_or other j d) _ _ (below_or _ _ off (λ e. ne (sym e))) (heads one other all i j d li lj u) in
       let P : List Strand → Type 0 = λ l. Unites one other (all ++ get_or other j d ∷ []) l (drop (j + 1) other) in
       let Q : List Strand → Type 0 = λ l. Unites one other l (drop i one) (drop (j + 1) other) in
       subst Q (sym is) (subst P (sym (drop_more one i d li)) k)
 
-  pub step_one : (IsBelow (get_or other j d) (get_or one i d) → ⊥) → get_or one i d ≢ get_or other j d → new ≡ all ++ get_or one i d ∷ [] → Unites one other new (drop (i + 1) one) (drop j other)
-  step_one off ne is =
-      let k = take_one one other all (get_or one i d) (get_or other j d) _ _ (below_or _ _ off ne) (heads one other all i j d li lj u) in
+  pub step_one : IsBelow (get_or one i d) (get_or other j d) → new ≡ all ++ get_or one i d ∷ [] → Unites one other new (drop (i + 1) one) (drop j other)
+  step_one b is =
+      let k = take_one one other all (get_or one i d) (get_or other j d) _ _ b (heads one other all i j d li lj u) in
       let P : List Strand → Type 0 = λ l. Unites one other (all ++ get_or one i d ∷ []) (drop (i + 1) one) l in
       let Q : List Strand → Type 0 = λ l. Unites one other l (drop (i + 1) one) (drop j other) in
       subst Q (sym is) (subst P (sym (drop_more other j d lj)) k)
