@@ -1,5 +1,5 @@
 //! Two lists that grow.
-ghost use Rattle.std.specs.Prelude.{◌≡◌, ◌+◌, ◌^◌, ◌<◌, ◌≤◌, [], ◌∷◌, length, IfOk, OnOk, OnErr, IsOk, false};
+ghost use Rattle.std.specs.Prelude.{◌≡◌, ◌⊎◌, ◌+◌, ◌^◌, ◌<◌, ◌≤◌, [], ◌∷◌, length, IfOk, OnOk, OnErr, IsOk, false};
 ghost use Rattle.order_list.specs.Sides.{AreSides};
 ghost use Rattle.race_finder.specs.Places.{AreWithin, english_from, hebrew_from};
 
@@ -69,10 +69,12 @@ impl Places {
         lists
     }
 
-    /// Makes room for so many more items, up to 2^31 - 1 in all.
+    /// Makes room for so many more items, up to 2^31 - 1 in all. Where there is too little, the lists are made more than twice
+    /// as long.
     pub fn reserve(&mut self, more: u32) -> Result<(), NoMemory>
         requires { length self.old.english + more < 2 ^ 31 }
         ensures room { OnOk result (more ≤ self.new.room) }
+        ensures longer { OnOk result ((self.new.room ≡ self.old.room) ⊎ (length self.new.english + more ≤ self.new.room)) }
         ensures english { self.new.english ≡ self.old.english }
         ensures hebrew { self.new.hebrew ≡ self.old.hebrew }
         ensures unchanged { OnErr result (self.new ≡ self.old) }
