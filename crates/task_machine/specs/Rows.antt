@@ -1,11 +1,12 @@
 -- A run worked out by hand, and what the definitions make of it.
-use Rattle.std.specs.Prelude.{◌≡◌, ℕ, ◌-◌, ◌^◌, pos, negsuc, List, [], ◌∷◌, codes}
+use Rattle.std.specs.Prelude.{◌≡◌, ℕ, ◌-◌, ◌^◌, true, pos, negsuc, List, [], ◌∷◌, codes}
 use Rattle.fut_base.specs.declared.record.Value.TheVariants.{Int}
 use Rattle.fut_base.specs.declared.event.Event.{Event}
 use Rattle.fut_base.specs.declared.event.Action.TheVariants.{Writes, Spawns, Syncs, Ends}
 use Rattle.fut_base.specs.Rows.{ev}
 use Rattle.fut_syntax.specs.Trees as tree
 use Rattle.task_machine.specs.Values.{combine, index_of}
+use Rattle.task_machine.specs.State.{TaskState, ToSync, ToEnd, wish_of, effect_of}
 use Rattle.task_machine.specs.Machine.{IsLegal, IsWhole}
 
 abbrev pub literal : ℕ → tree.Expr
@@ -36,6 +37,7 @@ pub record SpawnRow : Type 0 where
 -- numbers wrap, and a divisor of 0 gives 0; an index is never negative
 pub record NumberRow : Type 0 where
   pub added : combine tree.Add (pos (2 ^ 63 - 1)) (pos 1) ≡ negsuc (2 ^ 63 - 1)
+  pub subtracted : combine tree.Subtract (pos 1) (pos 3) ≡ negsuc 1
   pub multiplied : combine tree.Multiply (pos (2 ^ 32)) (pos (2 ^ 32)) ≡ pos 0
   pub by_zero : combine tree.Divide (pos 7) (pos 0) ≡ pos 0
   pub rest_by_zero : combine tree.Remainder (pos 7) (pos 0) ≡ pos 0
@@ -44,6 +46,22 @@ pub record NumberRow : Type 0 where
   pub towards_zero : combine tree.Divide (negsuc 6) (pos 2) ≡ negsuc 2
   pub sign_of_dividend : combine tree.Remainder (negsuc 6) (pos 2) ≡ negsuc 0
   pub bits : combine tree.BitAnd (negsuc 0) (pos 6) ≡ pos 6
+  pub either_bits : combine tree.BitOr (pos 5) (pos 6) ≡ pos 7
+  pub equal : (combine tree.Equal (pos 3) (pos 3) ≡ pos 1) × (combine tree.Equal (pos 3) (pos 4) ≡ pos 0)
+  pub unequal : (combine tree.Unequal (pos 3) (pos 3) ≡ pos 0) × (combine tree.Unequal (pos 3) (pos 4) ≡ pos 1)
   pub compared : combine tree.Less (negsuc 0) (pos 0) ≡ pos 1
+  pub less : (combine tree.Less (pos 3) (pos 3) ≡ pos 0) × (combine tree.Less (pos 4) (pos 3) ≡ pos 0)
+  pub at_most : (combine tree.AtMost (pos 3) (pos 3) ≡ pos 1) × (combine tree.AtMost (pos 4) (pos 3) ≡ pos 0)
+  pub greater : (combine tree.Greater (pos 4) (pos 3) ≡ pos 1) × (combine tree.Greater (pos 3) (pos 3) ≡ pos 0)
+  pub at_least : (combine tree.AtLeast (pos 3) (pos 3) ≡ pos 1) × (combine tree.AtLeast (pos 3) (pos 4) ≡ pos 0)
   pub index : index_of 4 (negsuc 0) ≡ 3
   pub index_around : index_of 4 (pos 9) ≡ 1
+
+-- a task whose block is open stands at `return 5;`
+abbrev pub at_return : TaskState
+at_return = record { vars = []; todo = tree.Return' (literal 5) ∷ []; is_open = true }
+
+-- it waits for its children first, and then ends with the value
+pub record ReturnRow : Type 0 where
+  pub waits : wish_of spawn_program at_return ≡ ToSync
+  pub ends : wish_of spawn_program (effect_of at_return (Syncs 3)) ≡ ToEnd (Int (pos 5))

@@ -1,6 +1,6 @@
 //! Laws of the machine, and a run worked out by hand.
 ghost use Rattle.task_machine.specs.Laws.{ActingTaskActs, ChildComes, ChildrenComeLater, LeadsByParts, LeadsFurther, LeadsToOne, OthersStay, PrefixIsLegal, StandsAtOne, StandsOrGoesOn, StepIsOne, StrandsRise, StrandsWereMade};
-ghost use Rattle.task_machine.specs.Rows.{NumberRow, SpawnRow};
+ghost use Rattle.task_machine.specs.Rows.{NumberRow, ReturnRow, SpawnRow};
 
 pub fn step_is_one()
     ensures { StepIsOne }
@@ -48,6 +48,10 @@ pub fn spawn_row()
 
 pub fn number_row()
     ensures { NumberRow }
+{}
+
+pub fn return_row()
+    ensures { ReturnRow }
 {}
 
 pub fn acting_task()
