@@ -1,5 +1,5 @@
 -- Going over statements with blocks, and over blocks.
-use Rattle.std.proofs.Common.{◌≡◌, ℕ, ◌+◌, ◌≤◌, List, [], ◌∷◌, ◌++◌, length, take, refl, sym, ap, ◌∙◌, append_assoc, arith, length-append}
+use Rattle.std.proofs.Common.{◌≡◌, ℕ, ◌+◌, ◌≤◌, List, [], ◌++◌, length, take, refl, sym, ap, ◌∙◌, append_assoc, arith, length-append}
 use Rattle.std.proofs.lemmas.List.{append-nil, take-append-le}
 use Rattle.fut_syntax.specs.Trees.{Expr, Item, Stmt, If', While', Block, Then, Tail, ElseOf}
 use Rattle.fut_rules.specs.declared.names.Variable.{Variable}

@@ -1,9 +1,8 @@
 -- No faults, and a count of none.
-use Rattle.std.proofs.Common.{◌≡◌, ℕ, List, [], ◌∷◌, length, Option, Some, None, refl, ap, arith}
+use Rattle.std.proofs.Common.{◌≡◌, List, [], ◌∷◌, length, Option, Some, None, refl, ap, arith}
 use Rattle.std.specs.Prelude.{IsSomeAnd}
 use Rattle.fut_syntax.specs.Trees.{Program}
 use Rattle.fut_rules.specs.declared.fault.Fault.{Fault}
-use Rattle.fut_rules.specs.Faults.{least, earlier, is_before, IsFirst, IsAmong}
 use Rattle.fut_check.specs.Items.{faults_of, IsWellTyped}
 use Rattle.fut_check.specs.Checks.{fault_count}
 

@@ -1,5 +1,5 @@
 -- Faults have one first fault.
-use Rattle.std.proofs.Common.{◌≡◌, ℕ, ◌+◌, ◌*◌, ◌≤◌, Bool, List, Some, refl, sym, ap, ◌∙◌, subst, arith}
+use Rattle.std.proofs.Common.{◌≡◌, ℕ, ◌+◌, ◌*◌, ◌≤◌, List, Some, refl, sym, ap, ◌∙◌, subst, arith}
 use Rattle.std.specs.Prelude.{nat_eq, if◌then◌else◌, slice_get, IsSomeAnd}
 use Rattle.fut_tokens.specs.declared.token.Place.{Place}
 use Rattle.fut_syntax.specs.declared.tree.Program as declared
@@ -10,7 +10,7 @@ use Rattle.fut_rules.specs.declared.fault.Fault.{Fault}
 use Rattle.fut_rules.specs.Faults.{rule_number, IsAmong, IsFirst}
 use Rattle.fut_check.specs.Items.{faults_of, IsWellTyped}
 use Rattle.fut_check.specs.Checks.{IsChecked, IsFaultOf}
-use Rattle.fut_check.proofs.First.{rank, small, not_before}
+use Rattle.fut_check.proofs.First.{small, not_before}
 
 -- the rule of a number
 abbrev rule_of : ℕ → Rule

@@ -2,10 +2,9 @@
 use Rattle.std.proofs.Common.{◌≡◌, ℕ, ◌+◌, ◌<◌, ◌≤◌, List, [], ◌∷◌, ◌++◌, length, refl, sym, ap, ◌∙◌, arith, length-append}
 use Rattle.std.specs.Prelude.{◌^◌, Some, Ok}
 use Rattle.fut_tokens.specs.declared.token.Token.{Token}
-use Rattle.fut_tokens.specs.declared.token.Place.{Place}
 use Rattle.fut_syntax.specs.declared.tree.Program as declared
-use Rattle.fut_tokens.specs.Cut.{Piece, Space, Comment, Lexeme, IsCut, bytes_of, token_of}
-use Rattle.fut_tokens.specs.Lexed.{tokens_of, places_of, place_after, IsTokensOf}
+use Rattle.fut_tokens.specs.Cut.{Piece, Space, Comment, Lexeme, IsCut, token_of}
+use Rattle.fut_tokens.specs.Lexed.{tokens_of, places_of}
 use Rattle.fut_syntax.specs.Texts.{Parses}
 use Rattle.fut_tokens.proofs.Cuts.{tokens_once}
 use Rattle.fut_check.specs.Checks.{HasPlaces}

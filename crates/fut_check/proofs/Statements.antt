@@ -1,8 +1,6 @@
 -- The faults of statements, by those of their parts.
 use Rattle.std.proofs.Common.{◌≡◌, ℕ, ◌+◌, List, ◌++◌, Option, Some, Bool, not, ◌&&◌, nat_lt, nat_eq, [], refl}
-use Rattle.fut_syntax.specs.Trees.{Expr, Init, Item, TaskOf, Param, Block, VarType, Declare, Define, Assign, Store}
-use Rattle.fut_rules.specs.declared.fault.Fault.{Fault}
-use Rattle.fut_rules.specs.declared.fault.Rule.{Rule}
+use Rattle.fut_syntax.specs.Trees.{Expr, Init, Item, TaskOf, Param, Block, VarType, Define, Assign, Store}
 use Rattle.fut_rules.specs.declared.kind.Kind.{Kind}
 use Rattle.fut_rules.specs.declared.kind.Need.{Need}
 use Rattle.fut_rules.specs.declared.names.Variable.{Variable}

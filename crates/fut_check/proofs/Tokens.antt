@@ -1,10 +1,10 @@
 -- The widths of trees are the numbers of their tokens.
-use Rattle.std.proofs.Common.{◌≡◌, ℕ, zero, suc, ◌+◌, List, [], ◌∷◌, length, refl, arith}
+use Rattle.std.proofs.Common.{◌≡◌, ℕ, zero, suc, ◌+◌, List, [], ◌∷◌, length, arith}
 use Rattle.fut_tokens.specs.declared.token.Token.{Token}
 use Rattle.fut_syntax.specs.Trees.{Sign, NoSign, Negative, Inverted, Expr, Alone, Pair, Operand, Signed, Primary, Literal, Name, Bracket, Init, GetOf, CreateOf, Index, Value, VarType, Plain, Array, Stmt, Declare, Define, Assign, Store, SpawnOf, SyncAll, If', While', Return', Block, Done, Then, Tail, NoElse, ElseOf, Param, Item, CellsOf, TaskOf, Program}
-use Rattle.fut_syntax.specs.Tokens.{op_token, sign_before, expr_before, operand_before, primary_before, more_before, args_before, call_before, init_before, type_before, var_type_before, stmt_before, block_before, tail_before, param_before, more_params_before, params_before, item_before, items_before, program_before}
+use Rattle.fut_syntax.specs.Tokens.{op_token, sign_before, expr_before, operand_before, primary_before, more_before, args_before, init_before, type_before, var_type_before, stmt_before, block_before, tail_before, param_before, more_params_before, params_before, item_before, items_before, program_before}
 use Rattle.fut_tokens.specs.declared.token.Token.TheVariants as t
-use Rattle.fut_rules.specs.Widths.{sign_width, expr_width, operand_width, primary_width, each_width, args_width, call_width, init_width, type_width, stmt_width, block_width, tail_width, param_width, each_param_width, params_width, item_width, items_width}
+use Rattle.fut_rules.specs.Widths.{sign_width, expr_width, operand_width, primary_width, each_width, args_width, init_width, type_width, stmt_width, block_width, tail_width, each_param_width, params_width, item_width, items_width}
 use Rattle.fut_check.specs.Items.{items_of}
 
 sign_tokens : (s : Sign) (r : List Token) → length (sign_before s r) ≡ sign_width s + length r

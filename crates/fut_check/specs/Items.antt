@@ -1,9 +1,7 @@
 -- The faults of items and of a whole program.
-use Rattle.std.specs.Prelude.{◌≡◌, ℕ, ◌+◌, Bool, true, false, ◌||◌, ◌&&◌, not, nat_eq, nat_lt, List, [], ◌∷◌, ◌++◌, length, slice_get, Option, Some, None}
-use Rattle.fut_tokens.specs.declared.token.Place.{Place}
+use Rattle.std.specs.Prelude.{◌≡◌, ℕ, ◌+◌, Bool, true, false, ◌||◌, ◌&&◌, not, nat_eq, nat_lt, List, [], ◌∷◌, ◌++◌, length}
 use Rattle.fut_syntax.specs.Trees.{Param, Item, CellsOf, TaskOf, Block, Program}
 use Rattle.fut_rules.specs.declared.fault.Fault.{Fault}
-use Rattle.fut_rules.specs.declared.fault.Rule.{Rule}
 use Rattle.fut_rules.specs.declared.fault.Rule.TheVariants as rule
 use Rattle.fut_rules.specs.declared.kind.Kind.{Kind}
 use Rattle.fut_rules.specs.declared.names.Variable.{Variable}
@@ -11,7 +9,7 @@ use Rattle.fut_rules.specs.Faults.{fault_if, IsFirst}
 use Rattle.fut_rules.specs.Kinds.{kind_of, size}
 use Rattle.fut_rules.specs.Names.{Scope, declares, cells, tasks, is_main, has_main, variable, slots}
 use Rattle.fut_check.specs.Stmts.{depth_faults, type_faults, declared_faults, block_faults, ends_with_return}
-use Rattle.fut_rules.specs.Widths.{type_width, param_width, params_width, block_width, item_width}
+use Rattle.fut_rules.specs.Widths.{param_width, params_width, block_width, item_width}
 
 -- the variable that a parameter is
 abbrev pub param_variable : Param → Variable

@@ -1,7 +1,7 @@
 -- Each part has a token.
-use Rattle.std.proofs.Common.{◌+◌, ◌<◌, arith}
+use Rattle.std.proofs.Common.{◌<◌, arith}
 use Rattle.fut_syntax.specs.Trees.{Expr, Alone, Pair, Operand, Signed, Primary, Literal, Name, Bracket, Init, GetOf, CreateOf, Index, Value}
-use Rattle.fut_rules.specs.Widths.{sign_width, expr_width, operand_width, primary_width, init_width}
+use Rattle.fut_rules.specs.Widths.{expr_width, operand_width, primary_width, init_width}
 
 mutual
   pub expr_some : (e : Expr) → 0 < expr_width e

@@ -1,6 +1,6 @@
 -- The types of expressions, and the faults in them.
 use Rattle.std.specs.Prelude.{ℕ, ◌+◌, List, [], ◌++◌, Option, Some, None}
-use Rattle.fut_syntax.specs.Trees.{Sign, NoSign, Negative, Inverted, Expr, Alone, Pair, Operand, Signed, Primary, Literal, Name, Bracket}
+use Rattle.fut_syntax.specs.Trees.{NoSign, Negative, Inverted, Expr, Alone, Pair, Operand, Signed, Primary, Literal, Name, Bracket}
 use Rattle.fut_rules.specs.declared.kind.Kind.{Kind}
 use Rattle.fut_rules.specs.declared.kind.Kind.TheVariants as kind
 use Rattle.fut_rules.specs.declared.kind.Need.{Need}

@@ -1,5 +1,5 @@
 -- What names mean.
-use Rattle.std.specs.Prelude.{ℕ, ◌+◌, Bool, true, false, ◌||◌, bytes_eq, nat_eq, if◌then◌else◌, List, [], ◌∷◌, ◌++◌, codes, Option, Some, None}
+use Rattle.std.specs.Prelude.{ℕ, ◌+◌, Bool, true, false, ◌||◌, bytes_eq, if◌then◌else◌, List, [], ◌∷◌, codes, Option, Some, None}
 use Rattle.fut_syntax.specs.Trees.{VarType, Param, Item, CellsOf, TaskOf}
 use Rattle.fut_rules.specs.declared.kind.Kind.{Kind}
 use Rattle.fut_rules.specs.declared.kind.Kind.TheVariants as kind

@@ -1,5 +1,5 @@
 -- The doer of an acting task, looked up among those of a finder.
-use Rattle.std.proofs.Common.{◌≡◌, ℕ, ◌+◌, ◌<◌, List, [], ◌∷◌, ◌++◌, length, slice_get, arith, refl, ap, subst}
+use Rattle.std.proofs.Common.{◌≡◌, ℕ, ◌<◌, List, [], ◌∷◌, ◌++◌, length, slice_get, arith, refl, ap, subst}
 use Rattle.std.specs.Prelude.{Some, get_or}
 use Rattle.std.proofs.lemmas.Option.{slice_get_read}
 use Rattle.fut_base.specs.declared.event.Event.{Event}

@@ -1,5 +1,5 @@
 -- A history and one more event.
-use Rattle.std.proofs.Common.{◌≡◌, ◌≢◌, ℕ, true, false, cond, List, [], ◌∷◌, ◌++◌, length, reverse, filter, subst, ap, sym, refl, ◌∙◌, option_to_list, option_map, ◌==◌, if◌then◌else◌}
+use Rattle.std.proofs.Common.{◌≡◌, ◌≢◌, ℕ, true, false, cond, List, [], ◌∷◌, ◌++◌, length, reverse, subst, ap, sym, refl, ◌∙◌, option_to_list, option_map, ◌==◌, if◌then◌else◌}
 use Rattle.std.specs.Prelude.{Option, Some, None}
 use Rattle.std.proofs.lemmas.List.{reverse-append, length-reverse, append-nil}
 use Rattle.std.proofs.lemmas.List.Elements.{filter-append}
@@ -9,7 +9,7 @@ use Rattle.fut_base.specs.declared.event.Action.TheVariants.{Reads, Writes, Spaw
 use Rattle.fut_base.specs.Events.{structural, structure_of}
 use Rattle.fut_base.specs.Dag.{last_of}
 use Rattle.fut_base.specs.Sound.{current}
-use Rattle.strand_laws.proofs.Links.{ev, if_off}
+use Rattle.strand_laws.proofs.Links.{if_off}
 use Rattle.strand_laws.proofs.Places.{by_eq}
 use Rattle.strand_laws.proofs.Structure.{reverse_filter}
 use Rattle.access_shards.specs.Kept.{Kind, reading, writing, touch}

@@ -1,4 +1,4 @@
-use Rattle.std.proofs.Common.{◌≡◌, ◌+◌, ◌++◌, drop, length, nat_eq}
+use Rattle.std.proofs.Common.{◌≡◌, ◌+◌, ◌++◌, drop}
 use Rattle.fut_syntax.specs.Views.{items_tree, params_tree}
 use Rattle.fut_rules.specs.Faults.{least}
 use Rattle.fut_check.specs.Items.{params_faults, param_variables}

@@ -3,9 +3,8 @@ use Rattle.fut_syntax.specs.Trees.{Item}
 use Rattle.fut_syntax.specs.Views.{item_tree, items_tree}
 use Rattle.fut_rules.specs.Faults.{least}
 use Rattle.fut_check.specs.Counts.{AreCounts}
-use Rattle.fut_rules.specs.Names.{tasks}
 use Rattle.fut_check.specs.Items.{items_faults}
-use Rattle.fut_rules.specs.Widths.{item_width, items_width}
+use Rattle.fut_rules.specs.Widths.{items_width}
 use Rattle.fut_check.proofs.Counts.{tasks_more}
 use Rattle.fut_rules.proofs.Drops.{dropped}
 use Rattle.fut_check.proofs.Walks.{items_taken, items_step, tasks_few}

@@ -1,6 +1,6 @@
-use Rattle.std.proofs.Common.{rules, ◌≡◌, ◌+◌, ◌∷◌, ◌++◌, length, drop, sym, ap, subst, ◌∙◌, arith}
-use Rattle.fut_syntax.specs.declared.tree.Stmt.{Stmt, If, While, the_lemmas}
-use Rattle.fut_syntax.specs.declared.tree.Tail.{Tail, Else}
+use Rattle.std.proofs.Common.{rules, ◌≡◌, ◌+◌, ◌++◌, length, drop, sym, ap, subst, ◌∙◌, arith}
+use Rattle.fut_syntax.specs.declared.tree.Stmt.{If, While, the_lemmas}
+use Rattle.fut_syntax.specs.declared.tree.Tail.{Else}
 use Rattle.fut_syntax.specs.Trees as trees
 use Rattle.fut_syntax.specs.Views.{expr_tree, stmt_tree, block_tree, tail_tree, items_tree}
 use Rattle.fut_syntax.proofs.Made.{if_tree, while_tree, else_tree}

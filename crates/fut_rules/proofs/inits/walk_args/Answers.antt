@@ -1,8 +1,8 @@
-use Rattle.std.proofs.Common.{◌≡◌, ◌+◌, ◌∷◌, drop, ap, sym, ◌∙◌, arith}
+use Rattle.std.proofs.Common.{◌≡◌, ◌+◌, ◌∷◌, drop, ap, ◌∙◌, arith}
 use Rattle.fut_syntax.specs.Views.{expr_tree, args_tree, params_tree}
 use Rattle.fut_rules.specs.Faults.{least}
 use Rattle.fut_rules.specs.Exprs.{needed_faults}
-use Rattle.fut_rules.specs.Inits.{args_faults, next_need}
+use Rattle.fut_rules.specs.Inits.{args_faults}
 use Rattle.fut_rules.specs.Widths.{each_width, expr_width}
 use Rattle.fut_rules.proofs.Args.{args_step}
 use Rattle.fut_rules.proofs.Drops.{dropped}

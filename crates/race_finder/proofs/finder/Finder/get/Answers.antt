@@ -1,4 +1,4 @@
-use Rattle.std.proofs.Common.{◌+◌, List, ℕ, length, reverse, arith, refl, ap, subst}
+use Rattle.std.proofs.Common.{◌+◌, List, length, reverse, arith, refl, ap, subst}
 use Rattle.fut_base.specs.Events.{structure_of}
 use Rattle.race_finder.specs.declared.doer.Doer.{Doer}
 use Rattle.race_finder.specs.Acting.{TableAfterGet}

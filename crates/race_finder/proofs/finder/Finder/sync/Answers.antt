@@ -1,4 +1,4 @@
-use Rattle.std.proofs.Common.{◌+◌, List, ℕ, length, arith, refl, sym, ap, subst}
+use Rattle.std.proofs.Common.{◌+◌, List, length, arith, refl, sym, ap, subst}
 use Rattle.fut_base.specs.Events.{structure_of}
 use Rattle.race_finder.specs.declared.doer.Doer.{Doer}
 use Rattle.race_finder.specs.Acting.{TableOfBlock, MaySync}
