@@ -1,20 +1,20 @@
 -- The strands that a definition's table keeps, said by its members, and keeping again what was kept.
-use Rattle.std.proofs.Common.{◌≡◌, ◌≢◌, ℕ, ◌<◌, ◌≤◌, Bool, true, false, not, ◌&&◌, ◌||◌, List, [], ◌∷◌, ◌++◌, ◌⊎◌, inl, inr, subst, ap, sym, refl, ◌∙◌, true≢false, arith, ◌==◌, if◌then◌else◌, filter, cond}
+use Rattle.std.proofs.Common.{◌≡◌, ◌≢◌, ℕ, ◌<◌, ◌≤◌, Bool, true, false, not, ◌&&◌, List, ◌++◌, inl, inr, subst, sym, refl, ◌∙◌, true≢false, arith, ◌==◌, filter}
 use Rattle.std.specs.Prelude.{◌↔◌}
 use Rattle.std.specs.List.{list_any}
 use Rattle.fut_base.specs.declared.event.Event.{Event}
 use Rattle.fut_base.specs.Dag.{Among}
-use Rattle.fut_base.specs.Orders.{precedes_past, is_in}
+use Rattle.fut_base.specs.Orders.{precedes_past}
 use Rattle.fut_base.specs.Sound.{IsSoundPast, next_strand, home_of}
-use Rattle.fut_base.specs.Tables.{once_each, maximal}
-use Rattle.strand_laws.proofs.Places.{by_eq, in_among, among_or, among_left, among_right}
+use Rattle.fut_base.specs.Tables.{maximal}
+use Rattle.strand_laws.proofs.Places.{among_or, among_left, among_right}
 use Rattle.strand_laws.proofs.Far.{Far, far_refl}
 use Rattle.strand_laws.proofs.Frames.{inner_layers}
 use Rattle.strand_laws.proofs.Steps.{basics}
-use Rattle.strand_laws.proofs.Held.{and_split, is_eq, or_split}
+use Rattle.strand_laws.proofs.Held.{and_split, is_eq}
 use Rattle.strand_laws.proofs.Inside.{far_of_precedes, precedes_of_far}
 use Rattle.strand_laws.proofs.Doubles.{not_before_self}
-use Rattle.strand_laws.proofs.Tabling.{red}
+use Rattle.strand_laws.proofs.Tabling.{red, filter_in, filter_out, any_of, in_any, once_out, once_in, not_true, not_false, off_eq, on_eq, ne_of, both_true}
 
 -- a strand of the list that is not of future `own` and precedes no other one of its future there
 pub record IsTop (past : List Event) (own : ℕ) (xs : List ℕ) (x : ℕ) : Type 0 where
@@ -22,92 +22,9 @@ pub record IsTop (past : List Event) (own : ℕ) (xs : List ℕ) (x : ℕ) : Typ
   pub foreign : home_of past x ≢ own
   pub top : (y : ℕ) → Among y xs → home_of past y ≡ home_of past x → precedes_past past x y ≡ false
 
-filter_head : (b : Bool) (x y : ℕ) (rest : List ℕ) → (y ≡ x → b ≡ true) → (y ≡ x) ⊎ Among x rest → Among x (cond b (y ∷ rest) rest)
-filter_head true x y rest h (inl e) = inl e
-filter_head true x y rest h (inr a) = inr a
-filter_head false x y rest h (inl e) = absurd (true≢false (sym (h e)))
-filter_head false x y rest h (inr a) = a
-
-filter_in : (p : ℕ → Bool) (x : ℕ) (xs : List ℕ) → Among x xs → p x ≡ true → Among x (filter p xs)
-filter_in p x [] h e = absurd h
-filter_in p x (y ∷ ys) (inl q) e = filter_head (p y) x y (filter p ys) (λ k. ap p k ∙ e) (inl q)
-filter_in p x (y ∷ ys) (inr h) e = filter_head (p y) x y (filter p ys) (λ k. ap p k ∙ e) (inr (filter_in p x ys h e))
-
-filter_tail : (b : Bool) (x y : ℕ) (rest : List ℕ) → Among x (cond b (y ∷ rest) rest) → ((y ≡ x) × (b ≡ true)) ⊎ Among x rest
-filter_tail true x y rest (inl e) = inl (e, refl)
-filter_tail true x y rest (inr a) = inr a
-filter_tail false x y rest a = inr a
-
-filter_out : (p : ℕ → Bool) (x : ℕ) (xs : List ℕ) → Among x (filter p xs) → Among x xs × (p x ≡ true)
-filter_out p x [] h = absurd h
-filter_out p x (y ∷ ys) h = elim (filter_tail (p y) x y (filter p ys) h) [
-  | inl q ↦ (inl q.0, ap p (sym q.0) ∙ q.1)
-  | inr a ↦ (let k = filter_out p x ys a in (inr k.0, k.1))
-]
-
-any_of : (p : ℕ → Bool) (xs : List ℕ) → list_any p xs ≡ true → (w : ℕ) × Among w xs × (p w ≡ true)
-any_of p [] h = absurd (true≢false (sym h))
-any_of p (x ∷ xs) h = elim (or_split (p x) (list_any p xs) h) [
-  | inl e ↦ (x, inl refl, e)
-  | inr e ↦ (let k = any_of p xs e in (k.0, inr k.1, k.2))
-]
-
-or_head : (a b : Bool) → a ≡ true → (a || b) ≡ true
-or_head true b h = refl
-or_head false b h = absurd (true≢false (sym h))
-
-or_tail : (a b : Bool) → b ≡ true → (a || b) ≡ true
-or_tail true b h = refl
-or_tail false b h = h
-
-in_any : (p : ℕ → Bool) (w : ℕ) (xs : List ℕ) → Among w xs → p w ≡ true → list_any p xs ≡ true
-in_any p w [] h e = absurd h
-in_any p w (x ∷ xs) (inl q) e = or_head (p x) _ (ap p q ∙ e)
-in_any p w (x ∷ xs) (inr h) e = or_tail (p x) _ (in_any p w xs h e)
-
-once_out : (x : ℕ) (xs : List ℕ) → Among x (once_each xs) → Among x xs
-once_out x [] h = absurd h
-once_out x (y ∷ ys) h = go (is_in y ys) h (once_out x ys)
-  where
-    go : (b : Bool) → Among x (if b then once_each ys else y ∷ once_each ys) → (Among x (once_each ys) → Among x ys) → Among x (y ∷ ys)
-    go true a ih = inr (ih a)
-    go false (inl e) ih = inl e
-    go false (inr a) ih = inr (ih a)
-
-once_in : (x : ℕ) (xs : List ℕ) → Among x xs → Among x (once_each xs)
-once_in x [] h = absurd h
-once_in x (y ∷ ys) h = go (is_in y ys) refl h (once_in x ys)
-  where
-    go : (b : Bool) → is_in y ys ≡ b → Among x (y ∷ ys) → (Among x ys → Among x (once_each ys)) → Among x (if b then once_each ys else y ∷ once_each ys)
-    go true e (inl q) ih = ih (subst (λ z. Among z ys) q (in_among y ys e))
-    go true e (inr a) ih = ih a
-    go false e (inl q) ih = inl q
-    go false e (inr a) ih = inr (ih a)
-
-not_true : (b : Bool) → b ≡ false → not b ≡ true
-not_true true h = absurd (true≢false h)
-not_true false h = refl
-
-not_false : (b : Bool) → not b ≡ true → b ≡ false
-not_false true h = absurd (true≢false (sym h))
-not_false false h = refl
-
 pub false_if : (b : Bool) → (b ≡ true → ⊥) → b ≡ false
 false_if true off = absurd (off refl)
 false_if false off = refl
-
-off_eq : (a b : ℕ) → a ≢ b → (a == b) ≡ false
-off_eq a b ne = by_eq (λ z. z ≡ false) a b (λ e. absurd (ne e)) (λ _. refl)
-
-on_eq : (a b : ℕ) → a ≡ b → (a == b) ≡ true
-on_eq a b e = by_eq (λ z. z ≡ true) a b (λ _. refl) (λ n. absurd (n e))
-
-ne_of : (a b : ℕ) → (a == b) ≡ false → a ≢ b
-ne_of a b h e = true≢false (sym (on_eq a b e) ∙ h)
-
-both_true : (a b : Bool) → a ≡ true → b ≡ true → (a && b) ≡ true
-both_true true b h k = k
-both_true false b h k = h
 
 module _ (past : List Event) (own : ℕ) (xs : List ℕ) where
   abbrev others : List ℕ
