@@ -12,7 +12,6 @@ use fut_base::list::{Listing, NoMemory};
 use fut_base::record::{Act, Entry, Limits, Value};
 use fut_check::check;
 use fut_syntax::parse;
-use run_check::checking::{RunFault, check_run};
 use std::alloc::Global;
 use std::test::Fail;
 use task_code::code::Code;
