@@ -5,7 +5,7 @@
 
 SMALLEST is the number of events of the smallest size of each family, 50,000 unless given. Each family is run at that size, at
 two, four and eight times that size, as far as the limits of the language allow. A time is the processor time of the whole
-program, reading and printing included, the least of three runs; the memory is the greatest that a run held. The record of each run is replayed, too. It tests nothing:
+program, reading and printing included, the least of seven runs; the memory is the greatest that a run held. The record of each run is replayed, too. It tests nothing:
 it prints a table, whose ratios are within this one run."""
 import os
 import subprocess
@@ -17,6 +17,7 @@ PROGRAM = os.path.join(TOP, "crates", "fut_main", "out", "fut_main")
 CELLS = 65536
 GRID = 64
 USAGE = 9
+RUNS = 7
 
 
 def one_cell(events):
@@ -134,18 +135,18 @@ def once(words, source, sink):
 
 
 def run(text):
-    """The events of the run of a text, the least of three times, the greatest memory in megabytes, and the least of three
+    """The events of the run of a text, the least of seven times, the greatest memory in megabytes, and the least of seven
     times of the replay of its record, where the program has that command."""
     with tempfile.TemporaryFile(buffering=0) as program, tempfile.TemporaryFile(buffering=0) as record, tempfile.TemporaryFile(buffering=0) as answer:
         program.write(text.encode())
-        runs = [once(["serial", "--events", "1000000"], program, record) for _ in range(3)]
+        runs = [once(["serial", "--events", "1000000"], program, record) for _ in range(RUNS)]
         if runs[0][2] not in (0, 1):
             sys.exit("a run ended with status %d" % runs[0][2])
         record.seek(0)
         head = record.read(len(text) + 100)
         at = head.rfind(b"\nentries ") + len(b"\nentries ")
         events = int(head[at : head.index(b"\n", at)])
-        again = [once(["replay"], record, answer) for _ in range(3)]
+        again = [once(["replay"], record, answer) for _ in range(RUNS)]
     replay = None
     if again[0][2] != USAGE:
         if again[0][2] != runs[0][2]:
