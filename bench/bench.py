@@ -5,7 +5,7 @@
 
 SMALLEST is the number of events of the smallest size of each family, 50,000 unless given. Each family is run at that size, at
 two, four and eight times that size, as far as the limits of the language allow. A time is the processor time of the whole
-program, reading and printing included, the least of seven runs; the memory is the greatest that a run held. The record of each run is replayed, too. It tests nothing:
+program, reading and printing included, the least of fifteen runs; the memory is the greatest that a run held. The record of each run is replayed, too. It tests nothing:
 it prints a table, whose ratios are within this one run."""
 import os
 import subprocess
@@ -17,7 +17,7 @@ PROGRAM = os.path.join(TOP, "crates", "fut_main", "out", "fut_main")
 CELLS = 65536
 GRID = 64
 USAGE = 9
-RUNS = 7
+RUNS = 15
 
 
 def one_cell(events):
@@ -135,7 +135,7 @@ def once(words, source, sink):
 
 
 def run(text):
-    """The events of the run of a text, the least of seven times, the greatest memory in megabytes, and the least of seven
+    """The events of the run of a text, the least of fifteen times, the greatest memory in megabytes, and the least of fifteen
     times of the replay of its record, where the program has that command."""
     with tempfile.TemporaryFile(buffering=0) as program, tempfile.TemporaryFile(buffering=0) as record, tempfile.TemporaryFile(buffering=0) as answer:
         program.write(text.encode())
