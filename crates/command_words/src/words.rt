@@ -45,7 +45,9 @@ impl Words {
     }
 
     /// The words in order.
-    pub fn as_slice(&self) -> &[String] {
+    pub fn as_slice(&self) -> &[String]
+        ensures { map string_bytes result.now ≡ self.now }
+    {
         self.all.as_slice()
     }
 

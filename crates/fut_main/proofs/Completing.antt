@@ -97,7 +97,7 @@ one_most (command.Run _ _) (command.Run _ _) e = refl
 
 -- the program text in what fits is well-typed
 given_typed : (c d : Command) (bytes program : List ℕ) → is_replay c ≡ is_replay d → IsGiven c bytes program → IsFit d bytes → (P : tree.Program) × IsWellTypedText program P
-given_typed command.Replay command.Replay bytes program e (h, races, end, given) (P, h', races', end', of, accepted) =
+given_typed command.Replay command.Replay bytes program e (h, races, end, given) (P, h', races', end', (of, accepted)) =
     let same = one_value bytes program h races end of.program h' races' end' given of.record_is in
     (P, subst (λ p. IsWellTypedText p P) (sym same.0) of.typed)
 given_typed command.Replay command.Check bytes program e given fit = absurd (cc)
@@ -116,7 +116,7 @@ record_fits command.Check bytes e fit = absurd (cc)
 record_fits (command.Run _ _) bytes e fit = absurd (cc)
 
 is_a_run : (bytes : List ℕ) (count : ℕ) → IsFit command.Replay bytes → IsFault bytes count → ⊥
-is_a_run bytes count (P, h, races, end, of, accepted) fault = fault.none (of.program, h, races, end, of.record_is)
+is_a_run bytes count (P, h, races, end, (of, accepted)) fault = fault.none (of.program, h, races, end, of.record_is)
 
 by_head : {X : Type 0} (ys : List X) (y x : X) (rest : List X) → ys ≡ y ∷ rest → y ≡ x → (more : List X) × (ys ≡ x ∷ more)
 by_head ys y x rest e p = (rest, e ∙ ap (λ z. z ∷ rest) p)
@@ -137,7 +137,7 @@ accepted_not_refused P h races end k accepted (inl bad) =
 accepted_not_refused P h races end k accepted (inr others) = others.others accepted.those
 
 not_refused : (bytes : List ℕ) (k : ℕ) → IsFit command.Replay bytes → IsRefusedRecord bytes k → ⊥
-not_refused bytes k (P, h, races, end, of, accepted) bad =
+not_refused bytes k (P, h, races, end, (of, accepted)) bad =
     let same = one_value bytes bad.record_is.program bad.events bad.races bad.end of.program h races end bad.record_is.record_is of.record_is in
     let typed : IsWellTypedText of.program bad.tree = subst (λ p. IsWellTypedText p bad.tree) same.0 bad.record_is.typed in
     let tree_is : bad.tree ≡ P = one_program of.program bad.tree P typed.program of.typed.program in

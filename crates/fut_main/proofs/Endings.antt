@@ -1,5 +1,5 @@
 -- From what came of the bytes to a verdict.
-use Rattle.std.proofs.Common.{◌≡◌, ℕ, Bool, List, [], ◌∷◌, length, inl, inr, refl, sym, ap, ◌∙◌, subst}
+use Rattle.std.proofs.Common.{◌≡◌, ℕ, ◌≤◌, Bool, List, [], ◌∷◌, length, inl, inr, refl, sym, ap, ◌∙◌, subst, arith}
 use Rattle.std.specs.Prelude.{Some, None, true, Ok, ℤ}
 use Rattle.fut_base.specs.declared.event.Event.{Event}
 use Rattle.fut_base.specs.declared.record.Race.{Race}
@@ -12,21 +12,24 @@ use Rattle.fut_tokens.specs.declared.token.Place.{Place}
 use Rattle.fut_syntax.specs.Views.{program_tree}
 use Rattle.fut_syntax.specs.Texts.{Parses, IsProgram}
 use Rattle.fut_check.specs.Checks.{HasPlaces, IsFaultOf}
+use Rattle.fut_check.specs.Items.{IsWellTyped}
 use Rattle.task_code.specs.Flat.{Compiled, IsCodeOf}
-use Rattle.run_record.specs.Records.{IsFault}
+use Rattle.run_record.specs.Records.{IsFault, IsFinish}
 use Rattle.run_replay.specs.Serials.{IsSerialRun}
 use Rattle.run_check.specs.Checks.{IsAccepted}
+use Rattle.run_check.specs.Within.{AreNumbered}
+use Rattle.run_check.proofs.Within.{accepted_are_within}
 use Rattle.fut_main.specs.declared.status.Status.{Status}
 use Rattle.fut_main.specs.declared.status.Status.TheVariants as status
 use Rattle.fut_main.specs.declared.program.Refusal.{Refusal}
 use Rattle.fut_main.specs.declared.program.Refusal.TheVariants as refusal
 use Rattle.command_words.specs.declared.words.Command.{Command}
 use Rattle.command_words.specs.declared.words.Command.TheVariants as command
-use Rattle.command_words.specs.Asking.{AreWordsOf}
+use Rattle.command_words.specs.Asking.{AreWordsOf, IsBound}
 use Rattle.fut_main.specs.Given.{Asked, Asks}
 use Rattle.fut_main.specs.Due.{due_text, run_due, legal_text}
 use Rattle.fut_main.specs.Outcomes.{ending_of, status_of, IsOfTree, IsRefused, RanAs, IsOutcome}
-use Rattle.fut_main.specs.Verdict.{IsRead, IsWellTypedText, IsIllTypedText, Says, limits_of, IsOfHistory, IsRecordOf, IsGiven, IsVerdict}
+use Rattle.fut_main.specs.Verdict.{IsRead, IsWellTypedText, IsIllTypedText, Says, limits_of, IsRunOf, IsOfHistory, IsRecordOf, IsGiven, IsVerdict}
 
 -- ---- a program
 
@@ -68,15 +71,25 @@ says (finish.Events b) races = (refl, not_whole_events b)
 says (finish.Local t) races = (refl, not_whole_local t)
 says (finish.Futures t) races = (refl, not_whole_futures t)
 
-pub ran_as : (P : tree.Program) (bound : ℕ) (brief : Bool) (text : List ℕ) (s : Status) (h : List Event) (made : List ℕ) (code : Compiled) (races : List Race) (end : Finish) (cells : List ℤ) → s ≡ ending_of end races → IsSerialRun P (limits_of bound) h end cells → IsReport h races → made ≡ run_due brief text code.arrays h races end cells → IsCodeOf P code → RanAs P bound brief text s h made
-ran_as P bound brief text s h made code races end cells is run report due of = record {
-  races = races;
-  end = end;
-  cells = cells;
-  status = is;
-  ends = (record { run = run; report = report }, subst (λ x. Says x end races) (sym is) (says end races));
-  text_is = due ∙ ap (λ arrays. run_due brief text arrays h races end cells) of.arrays;
-}
+-- a run is what a replay accepts
+accepted_run : (P : tree.Program) (bound : ℕ) (h : List Event) (races : List Race) (end : Finish) (cells : List ℤ) → IsRunOf P bound h end races cells → IsAccepted P h races end
+accepted_run P bound h races end cells r = record { legal = (r.run.machine, r.run.leads); those = (r.report, r.run.holds) }
+
+pub ran_as : (P : tree.Program) (bound : ℕ) (brief : Bool) (text : List ℕ) (s : Status) (h : List Event) (made : List ℕ) (code : Compiled) (races : List Race) (end : Finish) (cells : List ℤ) → s ≡ ending_of end races → IsSerialRun P (limits_of bound) h end cells → IsReport h races → made ≡ run_due brief text code.arrays h races end cells → IsCodeOf P code → IsWellTyped P → IsBound bound → length text ≤ 1048576 → AreNumbered h → IsFinish end → RanAs P bound brief text s h made
+ran_as P bound brief text s h made code races end cells is run report due of typed bounded short numbered finished =
+    let ran : IsRunOf P bound h end races cells = record { run = run; report = report } in
+    let few : length h ≤ bound = run.few in
+    let most : bound ≤ 1000000 = bounded.1 in
+    let within = accepted_are_within P text h races end typed (accepted_run P bound h races end cells ran) short (omega arith) numbered finished in
+    record {
+      races = races;
+      end = end;
+      cells = cells;
+      status = is;
+      ends = (ran, subst (λ x. Says x end races) (sym is) (says end races));
+      text_is = due ∙ ap (λ arrays. run_due brief text arrays h races end cells) of.arrays;
+      recorded = λ no. record { within = within; text = due ∙ ap (λ b. run_due b text code.arrays h races end cells) no };
+    }
 
 -- ---- verdicts
 
@@ -94,6 +107,7 @@ of_run a bound brief text P s h made words read typed r = inl (record {
   cells = r.cells;
   ends = r.ends;
   is_due = r.text_is;
+  replayed = λ no. (record { program = text; record_is = r.recorded no; typed = typed }, accepted_run P bound h r.races r.end r.cells r.ends.0);
 })
 
 pub run_verdict : (a : Asked) (bound : ℕ) (brief : Bool) (text : List ℕ) (P : tree.Program) (s : Status) (h : List Event) (made : List ℕ) → IsWellTypedText text P → RanAs P bound brief text s h made → Asks a (command.Run bound brief) → IsRead a text → IsVerdict a s h (due_text s made)
@@ -114,7 +128,7 @@ run_verdict a bound brief text P status.TooLong h made typed r words read = absu
 -- a record that was accepted
 record_by : (a : Asked) (bytes : List ℕ) (P : tree.Program) (h : List Event) (races : List Race) (end : Finish) (s : Status) (made : List ℕ) → Says s end races → IsRecordOf bytes P h races end → IsAccepted P h races end → made ≡ legal_text (length h) (length races) → Asks a command.Replay → IsRead a bytes → IsOfHistory a s h made
 record_by a bytes P h races end s made says of accepted due words read =
-    inr (record { words = words; bytes = bytes; read = read; tree = P; races = races; end = end; record_is = of; accepted = accepted; says = says; is_due = due })
+    inr (record { words = words; bytes = bytes; read = read; tree = P; races = races; end = end; good = (of, accepted); says = says; is_due = due })
 
 pub record_verdict : (a : Asked) (bytes : List ℕ) (P : tree.Program) (h : List Event) (races : List Race) (end : Finish) (made : List ℕ) → IsRecordOf bytes P h races end → IsAccepted P h races end → made ≡ legal_text (length h) (length races) → Asks a command.Replay → IsRead a bytes → IsVerdict a (ending_of end races) h (due_text (ending_of end races) made)
 record_verdict a bytes P h [] finish.Whole made of accepted due words read = record_by a bytes P h [] finish.Whole status.Clean made (says finish.Whole []) of accepted due words read

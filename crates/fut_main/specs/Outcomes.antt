@@ -1,5 +1,5 @@
 -- What comes of the bytes that a command read.
-use Rattle.std.specs.Prelude.{◌≡◌, ℕ, Bool, List, [], ◌∷◌, Some, ℤ}
+use Rattle.std.specs.Prelude.{◌≡◌, ℕ, Bool, false, List, [], ◌∷◌, Some, ℤ}
 use Rattle.fut_base.specs.declared.event.Event.{Event}
 use Rattle.fut_base.specs.declared.record.Race.{Race}
 use Rattle.fut_base.specs.declared.record.Finish.{Finish}
@@ -12,6 +12,7 @@ use Rattle.fut_syntax.specs.Views.{program_tree}
 use Rattle.fut_syntax.specs.Trees as tree
 use Rattle.fut_check.specs.Checks.{HasPlaces}
 use Rattle.task_machine.specs.Texts.{cell_arrays}
+use Rattle.run_record.specs.Records.{IsRunText}
 use Rattle.fut_main.specs.declared.status.Status.{Status}
 use Rattle.fut_main.specs.declared.status.Status.TheVariants as status
 use Rattle.fut_main.specs.declared.program.Refusal.{Refusal}
@@ -58,6 +59,7 @@ pub record RanAs (P : tree.Program) (bound : ℕ) (brief : Bool) (text : List �
   pub status : s ≡ ending_of end races
   pub ends : EndsIn P bound s end h races cells
   pub text_is : made ≡ run_due brief text (cell_arrays P) h races end cells
+  pub recorded : brief ≡ false → IsRunText made text h races end
 
 -- wherever a command read these bytes, this is a verdict
 abbrev pub IsOutcome : Command → List ℕ → Status → List Event → List ℕ → Type 0

@@ -1,5 +1,5 @@
 -- What `forder` and `plain` answer, and why.
-use Rattle.std.specs.Prelude.{◌≡◌, ◌≢◌, ℕ, ◌+◌, ◌≤◌, Bool, true, List, [], length, codes, slice_get, Option, Some, ◌⊎◌, ℤ}
+use Rattle.std.specs.Prelude.{◌≡◌, ◌≢◌, ℕ, ◌+◌, ◌≤◌, Bool, true, false, List, [], length, codes, slice_get, Option, Some, ◌⊎◌, ℤ}
 use Rattle.std.specs.Io.KnownBytes.{Appends, Consumes, IsAtEnd}
 use Rattle.fut_base.specs.declared.event.Event.{Event}
 use Rattle.fut_base.specs.declared.record.Race.{Race}
@@ -93,8 +93,18 @@ EndsIn P bound s end h races cells = IsRunOf P bound h end races cells × Says s
 
 -- ---- verdicts
 
+-- the bytes are the run text of a program text, a history, races and a finish, and the text is this program without a fault
+pub record IsRecordOf (bytes : List ℕ) (P : tree.Program) (h : List Event) (races : List Race) (end : Finish) : Type 0 where
+  pub program : List ℕ
+  pub record_is : IsRunText bytes program h races end
+  pub typed : IsWellTypedText program P
+
+-- the bytes are such a record, and it is accepted
+abbrev pub IsGoodRecord : List ℕ → tree.Program → List Event → List Race → Finish → Type 0
+IsGoodRecord bytes P h races end = IsRecordOf bytes P h races end × IsAccepted P h races end
+
 -- the words ask for a run, all the source's bytes were read, they are a program that breaks no type rule, its run ended
--- so, and the record of that run is due, or its brief text
+-- so, and the record of that run is due, which a replay accepts, or its brief text
 pub record IsOfRun (a : Asked) (s : Status) (h : List Event) (text : List ℕ) : Type 0 where
   pub bound : ℕ
   pub brief : Bool
@@ -108,12 +118,7 @@ pub record IsOfRun (a : Asked) (s : Status) (h : List Event) (text : List ℕ) :
   pub cells : List ℤ
   pub ends : EndsIn tree bound s end h races cells
   pub is_due : text ≡ run_due brief bytes (cell_arrays tree) h races end cells
-
--- the bytes are the run text of a program text, a history, races and a finish, and the text is this program without a fault
-pub record IsRecordOf (bytes : List ℕ) (P : tree.Program) (h : List Event) (races : List Race) (end : Finish) : Type 0 where
-  pub program : List ℕ
-  pub record_is : IsRunText bytes program h races end
-  pub typed : IsWellTypedText program P
+  pub replayed : brief ≡ false → IsGoodRecord text tree h races end
 
 -- the words ask for a replay, all the source's bytes were read, they are the record of a program with this history, it is
 -- accepted, the status says how it ended, and the line with its counts is due
@@ -124,8 +129,7 @@ pub record IsOfRecord (a : Asked) (s : Status) (h : List Event) (text : List ℕ
   pub tree : tree.Program
   pub races : List Race
   pub end : Finish
-  pub record_is : IsRecordOf bytes tree h races end
-  pub accepted : IsAccepted tree h races end
+  pub good : IsGoodRecord bytes tree h races end
   pub says : Says s end races
   pub is_due : text ≡ legal_text (length h) (length races)
 
@@ -239,7 +243,7 @@ abbrev pub IsFit : Command → List ℕ → Type 0
 IsFit command.Check bytes = (P : tree.Program) × IsWellTypedText bytes P
 IsFit (command.Run bound brief) bytes = (P : tree.Program) × IsWellTypedText bytes P
 IsFit command.Replay bytes =
-    (P : tree.Program) × (h : List Event) × (races : List Race) × (end : Finish) × IsRecordOf bytes P h races end × IsAccepted P h races end
+    (P : tree.Program) × (h : List Event) × (races : List Race) × (end : Finish) × IsGoodRecord bytes P h races end
 
 -- the words ask for a command, the source tells that it has left what the command reads, a program text of at most 1,048,576
 -- bytes or a record of at most 67,108,864, and no count of faults rose

@@ -17,6 +17,7 @@ use fut_base::list::NoMemory;
 use fut_base::ports::Wrote;
 use fut_base::record::{Limits, Ran};
 use race_report::write_brief;
+use run_check::numbers::{finish_has_bounds, history_has_bounds};
 use run_record::run_text::write_run;
 use run_replay::serial::serial;
 use std::alloc::Global;
@@ -68,6 +69,7 @@ fn run_code(
     events: u32,
     brief: bool,
 ) -> Result<Outcome, NoMemory>
+    requires short { length text.now ≤ 1048576 }
     requires program { (P : tree.Program) × IsWellTyped P × IsCodeOf P code.now }
     requires bounded { IsBound events }
     ensures { IfOk result (λ o. (P : tree.Program) → IsWellTyped P → IsCodeOf P code.now → RanAs P events brief text.now o.status (events_of o.history) o.text.items) }
@@ -78,6 +80,8 @@ fn run_code(
         futures: MOST_FUTURES,
     };
     let ran = serial(alloc, code, limits)?;
+    history_has_bounds(&ran.history);
+    finish_has_bounds(ran.finish);
     let made = made(alloc, text, code, &ran, brief)?;
     Ok(Outcome {
         status: ending(ran.finish, &ran.races),

@@ -1,3 +1,4 @@
 pub mod Checked
 pub mod Finishing
 pub mod Sameness
+pub mod Within

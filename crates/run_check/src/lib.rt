@@ -1,8 +1,11 @@
-//! Records checked: the entries are made again one by one, and the races and the finish compared.
+//! Records checked: the entries are made again one by one, and the races and the finish compared. And what is accepted makes a
+//! run text.
 #![tactic(auto)]
 
 pub mod checking;
 mod ending;
+pub mod laws;
+pub mod numbers;
 mod same;
 #[cfg(test)]
 mod tests;

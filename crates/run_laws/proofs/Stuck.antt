@@ -56,7 +56,7 @@ ahead (suc n) s = ahead_by n s (ahead n) (local_step s) refl
 stands_or_out : (limit : ℕ) → IsMost limit → (s : TaskState) → ((t : TaskState) × StandsAt s t) ⊎ IsOutOfSteps s
 stands_or_out limit most s = elim (ahead limit s) [ inl k ↦ inl (k.0, (limit, most, k.1)) | inr k ↦ inr (limit, most, k) ]
 
--- ---- the cells that a task reads
+-- ---- the cells that a task reads and writes
 
 index_below : (n : ℕ) (z : ℤ) → 0 < n → index_of n z < n
 index_below n (pos a) h = mod_below a n h
@@ -82,46 +82,47 @@ found_below n (tree.TaskOf _ _ _ _ ∷ rest) word z cell f h = found_below n res
 cell_below : (P : tree.Program) → HasCells P → (word : List ℕ) (z : ℤ) (cell : ℕ) → cell_at P word z ≡ Some cell → cell < cell_count P
 cell_below P f word z cell h = let k : cell < 0 + count_cells (items_of P) = found_below 0 (items_of P) word z cell f h in omega arith
 
--- a wish reads a cell that there is
-abbrev pub ReadsBelow : ℕ → Wish → Type 0
-ReadsBelow n (ToRead cell) = cell < n
-ReadsBelow n _ = Unit {0}
+-- a wish reads or writes a cell that there is
+abbrev pub AccessesBelow : ℕ → Wish → Type 0
+AccessesBelow n (ToRead cell) = cell < n
+AccessesBelow n (ToWrite cell _) = cell < n
+AccessesBelow n _ = Unit {0}
 
 module _ (P : tree.Program) (f : HasCells P) where
-  read_below : (o : Option ℕ) → ((cell : ℕ) → o ≡ Some cell → cell < cell_count P) → ReadsBelow (cell_count P) (read_of o)
+  read_below : (o : Option ℕ) → ((cell : ℕ) → o ≡ Some cell → cell < cell_count P) → AccessesBelow (cell_count P) (read_of o)
   read_below None g = tt
   read_below (Some cell) g = g cell refl
 
-  write_below : (o : Option ℕ) (z : ℤ) → ReadsBelow (cell_count P) (write_of o z)
-  write_below None z = tt
-  write_below (Some cell) z = tt
+  write_below : (o : Option ℕ) (z : ℤ) → ((cell : ℕ) → o ≡ Some cell → cell < cell_count P) → AccessesBelow (cell_count P) (write_of o z)
+  write_below None z g = tt
+  write_below (Some cell) z g = g cell refl
 
-  spawn_below : (o : Option ℕ) (args : List Value) → ReadsBelow (cell_count P) (spawn_of o args)
+  spawn_below : (o : Option ℕ) (args : List Value) → AccessesBelow (cell_count P) (spawn_of o args)
   spawn_below None args = tt
   spawn_below (Some code) args = tt
 
-  create_below : (o : Option ℕ) (args : List Value) → ReadsBelow (cell_count P) (create_of o args)
+  create_below : (o : Option ℕ) (args : List Value) → AccessesBelow (cell_count P) (create_of o args)
   create_below None args = tt
   create_below (Some code) args = tt
 
-  get_below : (v : Value) → ReadsBelow (cell_count P) (get_of v)
+  get_below : (v : Value) → AccessesBelow (cell_count P) (get_of v)
   get_below (Int _) = tt
   get_below (Fut f) = tt
 
-  end_below : (b : Bool) (v : Value) → ReadsBelow (cell_count P) (end_of b v)
+  end_below : (b : Bool) (v : Value) → AccessesBelow (cell_count P) (end_of b v)
   end_below true v = tt
   end_below false v = tt
 
-  init_below : (vs : Variables) (init : tree.Init) → ReadsBelow (cell_count P) (wish_of_init P vs init)
+  init_below : (vs : Variables) (init : tree.Init) → AccessesBelow (cell_count P) (wish_of_init P vs init)
   init_below vs (tree.GetOf word) = get_below (value_of (slot_at vs word))
   init_below vs (tree.CreateOf word es) = create_below (task_number P word) (values_in vs es)
   init_below vs (tree.Index word e) = read_below (cell_at P word (number_in vs e)) (cell_below P f word (number_in vs e))
   init_below vs (tree.Value _) = tt
 
-  stmt_below : (s : TaskState) (stmt : tree.Stmt) → ReadsBelow (cell_count P) (wish_by P s stmt)
+  stmt_below : (s : TaskState) (stmt : tree.Stmt) → AccessesBelow (cell_count P) (wish_by P s stmt)
   stmt_below s (tree.Define _ _ init) = init_below s.vars init
   stmt_below s (tree.Assign _ init) = init_below s.vars init
-  stmt_below s (tree.Store word e v) = write_below (cell_at P word (number_in s.vars e)) (number_in s.vars v)
+  stmt_below s (tree.Store word e v) = write_below (cell_at P word (number_in s.vars e)) (number_in s.vars v) (cell_below P f word (number_in s.vars e))
   stmt_below s (tree.SpawnOf word es) = spawn_below (task_number P word) (values_in s.vars es)
   stmt_below s tree.SyncAll = tt
   stmt_below s (tree.Return' e) = end_below s.is_open (value_in s.vars e)
@@ -129,11 +130,11 @@ module _ (P : tree.Program) (f : HasCells P) where
   stmt_below s (tree.If' _ _ _) = tt
   stmt_below s (tree.While' _ _) = tt
 
-  todo_below : (s : TaskState) (todo : List tree.Stmt) → ReadsBelow (cell_count P) (first_wish P s todo)
+  todo_below : (s : TaskState) (todo : List tree.Stmt) → AccessesBelow (cell_count P) (first_wish P s todo)
   todo_below s [] = end_below s.is_open (Int (pos 0))
   todo_below s (stmt ∷ rest) = stmt_below s stmt
 
-  pub wish_below : (s : TaskState) → ReadsBelow (cell_count P) (wish_of P s)
+  pub wish_below : (s : TaskState) → AccessesBelow (cell_count P) (wish_of P s)
   wish_below s = todo_below s s.todo
 
 cells_stay : (a : Action) (cells : List ℤ) → length (cells_after a cells) ≡ length cells
@@ -231,7 +232,7 @@ module _ (P : tree.Program) (h : List Event) (m : Machine) (l : Leads P (opening
 
     allowed : (w : Wish) → wish_of P s ≡ w → w ≢ NoWish → IsAllowed P m t
     allowed (ToRead cell) is some =
-        let b : cell < cell_count P = subst (λ z. ReadsBelow (cell_count P) z) is (wish_below P f s) in
+        let b : cell < cell_count P = subst (λ z. AccessesBelow (cell_count P) z) is (wish_below P f s) in
         let c : length m.cells ≡ cell_count P = cells_from P (opening P) h m l ∙ replicate_length (cell_count P) (pos 0) in
         let v = get_some m.cells cell (omega arith) in
         goes t r s (Reads cell v.0) x.running at is v.1

@@ -15,7 +15,7 @@ use Rattle.task_code.specs.Tasks.{Wishes}
 use Rattle.task_code.specs.declared.task.Wish.TheVariants as wish
 use Rattle.run_replay.specs.declared.line.Line.{Line}
 use Rattle.run_replay.specs.Replays.{ReplayNow, AreLinesOf, IsReplayOf, CanAct, IsFree, value_at, HaveEnded, RunsStill}
-use Rattle.run_laws.proofs.Stuck.{ReadsBelow, wish_below, cells_from, replicate_length}
+use Rattle.run_laws.proofs.Stuck.{AccessesBelow, wish_below, cells_from, replicate_length}
 use Rattle.run_laws.proofs.Typed.{well_typed_has_cells}
 use Rattle.run_replay.proofs.Lining.{line_of_task, count_lines, some_same, item_at}
 
@@ -78,7 +78,7 @@ module _ (P : tree.Program) (code : Compiled) (h : List Event) (now : ReplayNow)
   -- a cell that is read exists
   pub cell_there : (s : TaskState) (cell : ℕ) → wish_of P s ≡ ToRead cell → (value : ℤ) × (slice_get m.cells cell ≡ Some value)
   cell_there s cell is =
-      let below : cell < cell_count P = subst (λ z. ReadsBelow (cell_count P) z) is (wish_below P (well_typed_has_cells P x.typed) s) in
+      let below : cell < cell_count P = subst (λ z. AccessesBelow (cell_count P) z) is (wish_below P (well_typed_has_cells P x.typed) s) in
       let size : length m.cells ≡ cell_count P = cells_from P (opening P) h m x.leads ∙ replicate_length (cell_count P) (pos 0) in
       item_at m.cells cell (omega (arith, below, size))
 

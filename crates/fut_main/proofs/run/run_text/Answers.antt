@@ -1,7 +1,15 @@
 use Rattle.std.proofs.Common.{refl}
 use Rattle.command_words.specs.declared.words.Command.TheVariants as command
-use Rattle.fut_main.proofs.Endings.{refused}
+use Rattle.fut_base.specs.Events.{events_of}
+use Rattle.fut_main.proofs.Endings.{refused, run_verdict}
 use Rattle.fut_main.proofs.run.run_text.Goals as goal
+
+pub returns-in-Ok-run_code : goal.returns-in-Ok-run_code
+returns-in-Ok-run_code c = λ a words read.
+    let o = c.in-Ok-run_code.outcome in
+    let P = c.in-Ok.ensures.0 in
+    let typed = c.in-Ok.ensures.1 in
+    run_verdict a c.args.events c.args.brief c.args.text.now P o.status (events_of o.history) o.text.items typed (c.in-Ok-run_code.ensures P typed.well_typed c.in-Ok.ensures.2) words read
 
 pub returns : goal.returns
 returns c = λ a words read.
