@@ -1,5 +1,5 @@
 -- The source and the sink in memory, as contracts see them.
-use Rattle.std.specs.Prelude.{◌≡◌, ℕ, min, Bool, List, [], length, Contains, ◌⊎◌}
+use Rattle.std.specs.Prelude.{◌≡◌, ℕ, ◌+◌, ◌-◌, ◌^◌, min, Bool, true, false, List, [], ◌++◌, drop, take, length, Contains, ◌⊎◌}
 use Rattle.fut_base.specs.declared.ports.Took.{Took}
 use Rattle.fut_base.specs.declared.ports.Took.TheVariants as took
 use Rattle.fut_base.specs.declared.ports.Put.{Put}
@@ -34,3 +34,22 @@ TakesOf s len took.Failed = Contains s.fails s.calls
 abbrev pub PutsOf : Room → ℕ → Put → Type 0
 PutsOf s len (put.Took n) = (Contains s.fails s.calls → ⊥) × (n ≡ min (min s.most len) s.room)
 PutsOf s len put.Failed = (s.room ≡ 0) ⊎ Contains s.fails s.calls
+
+-- a count of 64 bits after one more; at its greatest it stands
+abbrev pub one_more : ℕ → ℕ
+one_more n = min (n + 1) (2 ^ 64 - 1)
+
+-- a source after the call that answered so
+abbrev pub after_take : Given → Took → Given
+after_take s (took.Bytes n) =
+    record { left = drop n s.left; most = s.most; calls = one_more s.calls; fails = s.fails; faults = s.faults; ended = false }
+after_take s took.End = record { left = s.left; most = s.most; calls = one_more s.calls; fails = s.fails; faults = s.faults; ended = true }
+after_take s took.Failed =
+    record { left = s.left; most = s.most; calls = one_more s.calls; fails = s.fails; faults = one_more s.faults; ended = false }
+
+-- a sink after the call that was given this piece and answered so
+abbrev pub after_put : Room → List ℕ → Put → Room
+after_put s piece (put.Took n) =
+    record { bytes = s.bytes ++ take n piece; room = s.room - n; most = s.most; calls = one_more s.calls; fails = s.fails; faults = s.faults }
+after_put s piece put.Failed =
+    record { bytes = s.bytes; room = s.room; most = s.most; calls = one_more s.calls; fails = s.fails; faults = one_more s.faults }

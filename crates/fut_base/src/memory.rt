@@ -1,7 +1,7 @@
 //! A source and a sink in memory, which tell their bytes and fail at chosen calls.
 ghost use Rattle.std.specs.Prelude.{◌≡◌, ◌∷◌, [], IfOk, Some, false, ◌+◌, ◌<◌, ◌≤◌, length};
 ghost use Rattle.fut_base.specs.Ports.{Puts, Takes};
-ghost use Rattle.fut_base.specs.Memory.{Given, Room, TakesOf, PutsOf};
+ghost use Rattle.fut_base.specs.Memory.{Given, Room, TakesOf, PutsOf, after_take, after_put};
 
 use crate::list::NoMemory;
 use crate::ports::{Put, Sink, Source, Took};
@@ -68,6 +68,7 @@ impl Source for MemSource {
         requires { 0 < length buf.old }
         ensures takes { Takes (Some self.old.left) (Some self.new.left) self.new.ended self.old.faults self.new.faults buf.new result }
         ensures exact { TakesOf self.old (length buf.new) result }
+        ensures after { self.new ≡ after_take self.old result }
     {
         let call = self.calls;
         self.calls = self.calls.saturating_add(1);
@@ -148,6 +149,7 @@ impl Sink for MemSink {
         requires { 0 < length piece.now }
         ensures puts { Puts (Some self.old.bytes) (Some self.new.bytes) self.old.faults self.new.faults piece.now result }
         ensures exact { PutsOf self.old (length piece.now) result }
+        ensures after { self.new ≡ after_put self.old piece.now result }
     {
         let call = self.calls;
         self.calls = self.calls.saturating_add(1);
