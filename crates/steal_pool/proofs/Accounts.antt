@@ -8,14 +8,14 @@ use Rattle.steal_pool.specs.declared.worker.Worker.{Worker}
 use Rattle.steal_pool.specs.Balance.{weigh}
 use Rattle.steal_pool.specs.Deques.{own_tally, victim_tally}
 use Rattle.steal_pool.specs.Thieves.{Id, victim_frame, frame, put_weight, taken_weight}
-use Rattle.steal_pool.specs.Turns.{Turn, Chain, turned_weight, given_weight}
+use Rattle.steal_pool.specs.Turns.{Turn, Chain, StopsAtHalt, turned_weight, given_weight}
 use Rattle.steal_pool.specs.Workers.{held_weight, Worked, IsStopped, LeavesOnlyIfStopped, HasNothingLeft}
-use Rattle.steal_pool.specs.AllWorkers.{AllWorked, IsWhole, AreGathered, AllMoved, self_of}
+use Rattle.steal_pool.specs.AllWorkers.{AllWorked, IsWhole, AreGathered, AllMoved, RanAll, IsOver, self_of}
 use Rattle.steal_pool.specs.Runs.{SomeHalts, TurnedOrLeft}
 use Rattle.steal_pool.proofs.Rule.{weigh-append, whole_empty}
-use Rattle.steal_pool.proofs.Lists.{map_nil, at_same, weigh_none}
+use Rattle.steal_pool.proofs.Lists.{All-cons, All-tail, map_nil, at_same, weigh_none}
 use Rattle.steal_pool.proofs.Shifting.{some_of}
-use Rattle.steal_pool.proofs.Working.{chain_append, halts_left, halts_right}
+use Rattle.steal_pool.proofs.Working.{chain_append, stops_append, halts_of, ends_of, halts_left, halts_right}
 
 or_true : (a b : Bool) → (a || b) ≡ true → (a ≡ true) ⊎ (b ≡ true)
 or_true true b e = inl refl
@@ -59,6 +59,7 @@ module _ {J W : Type 0} (turned : ℕ → W → J → List J → Bool → W → 
     pub count : length owns ≡ length ms
     pub numbers : (i : ℕ) (d : Worker J W) → i < length ms → (get_or ms i d).number ≡ i
     pub chains : (i : ℕ) (o : W) (e : List (Turn J)) (d : Worker J W) → i < length ms → Chain (turned i) (get_or owns i o) (get_or runs i e) (get_or ms i d).own
+    pub stops : (i : ℕ) (e : List (Turn J)) (d : Worker J W) → i < length ms → StopsAtHalt false (get_or runs i e) (get_or ms i d).halted
     pub halted : list_any (λ (m : Worker J W). m.halted) ms ≡ true → SomeHalts runs
     pub balance : (h : J → ℕ) → h first + weigh (given_weight h) runs + weigh (λ m. taken_weight h m.thief) ms
         ≡ weigh (turned_weight h) runs + weigh (λ m. put_weight h m.thief) ms + weigh (held_weight h) ms + weigh h out
@@ -69,6 +70,7 @@ module _ {J W : Type 0} (turned : ℕ → W → J → List J → Bool → W → 
     pub numbers : (i : ℕ) (d : Worker J W) → i < length ms → (get_or ms' i d).number ≡ (get_or ms i d).number
     pub more : (i : ℕ) (d : Worker J W) (e : List (Turn J)) → i < length ms
         → (ts : List (Turn J)) × (get_or runs' i e ≡ get_or runs i e ++ ts) × Chain (turned (get_or ms i d).number) (get_or ms i d).own ts (get_or ms' i d).own
+        × StopsAtHalt (get_or ms i d).halted ts (get_or ms' i d).halted
     pub halted : list_any (λ (m : Worker J W). m.halted) ms' ≡ true → (list_any (λ (m : Worker J W). m.halted) ms ≡ true) ⊎ SomeHalts runs'
     pub still_halted : SomeHalts runs → SomeHalts runs'
     pub balance : (h : J → ℕ) → weigh (held_weight h) ms + weigh (given_weight h) runs' + weigh (λ m. taken_weight h m.thief) ms' + weigh (λ m. put_weight h m.thief) ms + weigh (turned_weight h) runs
@@ -100,9 +102,9 @@ module _ {J W : Type 0} (turned : ℕ → W → J → List J → Bool → W → 
         record {
           count = let c = x.count in omega arith;
           numbers = λ i d l. number m m' ms ms' w.number x.numbers i d l;
-          more = λ i d e l. at_more m m' ms ms' r runs w.turns rec.0 w.chain x.more i d e l;
+          more = λ i d e l. at_more m m' ms ms' r runs w.turns rec.0 w.chain w.stops x.more i d e l;
           halted = λ e. elim (or_true m'.halted (list_any (λ (m : Worker J W). m.halted) ms') e) [
-            | inl here ↦ elim (w.halted here) [ inl f ↦ inl (or_left m.halted (list_any (λ (m : Worker J W). m.halted) ms) f) | inr s ↦ inr (inl (halts_right r w.turns s)) ]
+            | inl here ↦ elim (halts_of m.halted m'.halted w.turns w.stops here) [ inl f ↦ inl (or_left m.halted (list_any (λ (m : Worker J W). m.halted) ms) f) | inr s ↦ inr (inl (halts_right r w.turns s)) ]
             | inr there ↦ elim (x.halted there) [ inl f ↦ inl (or_right m.halted (list_any (λ (m : Worker J W). m.halted) ms) f) | inr s ↦ inr (inr s) ]
           ];
           still_halted = λ s. elim s [ inl here ↦ inl (halts_left r w.turns here) | inr there ↦ inr (x.still_halted there) ];
@@ -119,13 +121,15 @@ module _ {J W : Type 0} (turned : ℕ → W → J → List J → Bool → W → 
       number m m' ms ms' here there (suc i) d l = there i d (omega arith)
 
       at_more : (m m' : Worker J W) (ms ms' : List (Worker J W)) (r : List (Turn J)) (runs : List (List (Turn J))) (ts : List (Turn J)) (runs' : List (List (Turn J)))
-          → Chain (turned m.number) m.own ts m'.own
+          → Chain (turned m.number) m.own ts m'.own → StopsAtHalt m.halted ts m'.halted
           → ((i : ℕ) (d : Worker J W) (e : List (Turn J)) → i < length ms
-          → (ts : List (Turn J)) × (get_or runs' i e ≡ get_or runs i e ++ ts) × Chain (turned (get_or ms i d).number) (get_or ms i d).own ts (get_or ms' i d).own)
+          → (ts : List (Turn J)) × (get_or runs' i e ≡ get_or runs i e ++ ts) × Chain (turned (get_or ms i d).number) (get_or ms i d).own ts (get_or ms' i d).own
+          × StopsAtHalt (get_or ms i d).halted ts (get_or ms' i d).halted)
           → (i : ℕ) (d : Worker J W) (e : List (Turn J)) → i < length (m ∷ ms)
           → (us : List (Turn J)) × (get_or ((r ++ ts) ∷ runs') i e ≡ get_or (r ∷ runs) i e ++ us) × Chain (turned (get_or (m ∷ ms) i d).number) (get_or (m ∷ ms) i d).own us (get_or (m' ∷ ms') i d).own
-      at_more m m' ms ms' r runs ts runs' here there zero d e l = (ts, refl, here)
-      at_more m m' ms ms' r runs ts runs' here there (suc i) d e l = there i d e (omega arith)
+          × StopsAtHalt (get_or (m ∷ ms) i d).halted us (get_or (m' ∷ ms') i d).halted
+      at_more m m' ms ms' r runs ts runs' here stops there zero d e l = (ts, refl, here, stops)
+      at_more m m' ms ms' r runs ts runs' here stops there (suc i) d e l = there i d e (omega arith)
 
   -- the workers did turns
   pub worked_on : (first : J) (owns : List W) (runs : List (List (Turn J))) (ms ms' : List (Worker J W)) (out : List J) → AllWorked turned ms ms' → Account first owns runs ms out
@@ -144,6 +148,11 @@ module _ {J W : Type 0} (turned : ℕ → W → J → List J → Bool → W → 
               subst (λ ts. Chain (turned i) (get_or owns i o) ts (get_or ms' i d).own) (sym m.1)
               (chain_append (turned i) (get_or owns i o) (get_or ms i d).own (get_or ms' i d).own (get_or runs i e) m.0 (acc.chains i o e d b)
               (subst (λ n. Chain (turned n) (get_or ms i d).own m.0 (get_or ms' i d).own) (acc.numbers i d b) m.2));
+          stops = λ i e d l.
+              let b : i < length ms = omega arith in
+              let m = x.more i d e b in
+              subst (λ ts. StopsAtHalt false ts (get_or ms' i d).halted) (sym m.1)
+              (stops_append false (get_or ms i d).halted (get_or ms' i d).halted (get_or runs i e) m.0 (acc.stops i e d b) m.3);
           halted = λ e. elim (x.halted e) [ inl f ↦ x.still_halted (acc.halted f) | inr s ↦ s ];
           balance = λ h. let a = acc.balance h in let b = x.balance h in omega arith;
         },
@@ -162,6 +171,8 @@ module _ {J W : Type 0} (turned : ℕ → W → J → List J → Bool → W → 
         numbers = λ i d l. let b : i < length ms = omega arith in ap (λ (x : ℕ × W × Bool). x.0) (at_same self_of ms' ms i d d l selves) ∙ acc.numbers i d b;
         chains = λ i o e d l. let b : i < length ms = omega arith in
             subst (λ v. Chain (turned i) (get_or owns i o) (get_or runs i e) v) (sym (ap (λ (x : ℕ × W × Bool). x.1) (at_same self_of ms' ms i d d l selves))) (acc.chains i o e d b);
+        stops = λ i e d l. let b : i < length ms = omega arith in
+            subst (λ v. StopsAtHalt false (get_or runs i e) v) (sym (ap (λ (x : ℕ × W × Bool). x.2) (at_same self_of ms' ms i d d l selves))) (acc.stops i e d b);
         halted = λ e. acc.halted (sym (any_same self_of (λ (x : ℕ × W × Bool). x.2) ms' ms selves) ∙ e);
         balance = λ h. let a = acc.balance h in let b = moved h in omega arith;
       }
@@ -188,6 +199,7 @@ module _ {J W : Type 0} (turned : ℕ → W → J → List J → Bool → W → 
         let p = weigh_alike (λ (m : Worker J W). put_weight h m.thief) (λ (m : Worker J W). taken_weight h m.thief) ms (λ k d l. same_weight h (get_or ms k d) (bare k d l) (whole k d l)) in
         let z = weigh_none (held_weight h) ms (λ k d l. not_held h (get_or ms k d) (bare k d l)) in
         omega arith;
+    ends = λ w e l. let b : w < length ms = let c = acc.workers in omega arith in let m = some_of ms w b in ends_of false (get_or ms w m).halted (get_or runs w e) (acc.stops w e m b);
     halted = elim halted [ inl none ↦ inl none | inr any ↦ inr (acc.halted any) ];
   }
     where
@@ -230,33 +242,33 @@ module _ {J W : Type 0} where
       ]
 
   -- where nobody has stopped, nothing is left
-  pub all_bare : (ms : List (Worker J W)) → list_any (λ (m : Worker J W). m.halted) ms ≡ false → list_any (λ (m : Worker J W). m.refused) ms ≡ false
-      → All (λ (m : Worker J W). IsStopped m ⊎ HasNothingLeft m) ms → All HasNothingLeft ms
-  all_bare ms no_halt no_refusal end k d l =
-      let a = none_of (λ (m : Worker J W). m.halted) ms no_halt k d l in
-      let b = none_of (λ (m : Worker J W). m.refused) ms no_refusal k d l in
-      elim (end k d l) [ inl stopped ↦ elim stopped [ inl e ↦ absurd (true_or_false _ e a) | inr e ↦ absurd (true_or_false _ e b) ] | inr bare ↦ bare ]
+  pub nothing_left : (ms : List (Worker J W)) → list_any (λ (m : Worker J W). m.halted) ms ≡ false → list_any (λ (m : Worker J W). m.refused) ms ≡ false → IsOver ms → All HasNothingLeft ms
+  nothing_left ms no_halt no_refusal over =
+      elim over [ inl stopped ↦ elim stopped [ inl e ↦ absurd (true_or_false _ e no_halt) | inr e ↦ absurd (true_or_false _ e no_refusal) ] | inr none ↦ none ]
     where
       true_or_false : (x : Bool) → x ≡ true → x ≡ false → ⊥
       true_or_false x e f = cc
 
--- the whole run
-module _ {J W : Type 0} (turned : ℕ → W → J → List J → Bool → W → Type 0) (first : J) (owns : List W) (runs : List (List (Turn J))) (ms ms1 ms2 ms3 : List (Worker J W))
-    (begun : Account turned first owns runs ms []) (worked : AllWorked turned ms ms1) (gathered : AreGathered ms1 ms2) (finished : AllWorked turned ms2 ms3) where
-  ended : (runs' : List (List (Turn J))) × Account turned first owns runs' ms3 [] × All IsWhole ms3
-  ended =
+  -- each worker has stopped or has nothing left
+  pub over_of : (ms : List (Worker J W)) → All (λ (m : Worker J W). IsStopped m ⊎ HasNothingLeft m) ms → IsOver ms
+  over_of [] all = inr (λ k d l. absurd (omega arith))
+  over_of (m ∷ ms) all = elim (over_of ms (All-tail (λ (m : Worker J W). IsStopped m ⊎ HasNothingLeft m) m ms all)) [
+    | inl stopped ↦ inl (elim stopped [ inl e ↦ inl (or_right m.halted (list_any (λ (m : Worker J W). m.halted) ms) e) | inr e ↦ inr (or_right m.refused (list_any (λ (m : Worker J W). m.refused) ms) e) ])
+    | inr rest ↦ elim (all 0 m (omega arith)) [
+      | inl stops ↦ inl (elim stops [ inl e ↦ inl (or_left m.halted (list_any (λ (m : Worker J W). m.halted) ms) e) | inr e ↦ inr (or_left m.refused (list_any (λ (m : Worker J W). m.refused) ms) e) ])
+      | inr here ↦ inr (All-cons HasNothingLeft m ms here rest)
+    ]
+  ]
+
+  -- what was done on all workers, and then the jobs that are left taken
+  pub whole_run : (turned : ℕ → W → J → List J → Bool → W → Type 0) (first : J) (owns : List W) (runs : List (List (Turn J))) (ms ms3 ms4 : List (Worker J W)) (out : List J) (owns' : List W)
+      → Account turned first owns runs ms [] → RanAll turned ms ms3 → AllMoved ms3 [] ms4 out → All HasNothingLeft ms4 → (out ≡ []) ⊎ (list_any (λ (m : Worker J W). m.halted) ms3 ≡ true)
+      → owns' ≡ map (λ (m : Worker J W). m.own) ms4 → TurnedOrLeft turned first owns out owns'
+  whole_run turned first owns runs ms ms3 ms4 out owns' begun (ms1, ms2, worked, gathered, rest) moved none halted is =
       let a = worked_on turned first owns runs ms ms1 [] worked begun in
       let b = gathered_on turned first owns a.0 ms1 ms2 [] gathered a.1 in
-      let c = worked_on turned first owns a.0 ms2 ms3 [] finished b in
-      (c.0, c.1, whole_by_work turned ms2 ms3 finished gathered.whole)
-
-  pub ran_bare : (owns' : List W) → list_any (λ (m : Worker J W). m.halted) ms3 ≡ false → list_any (λ (m : Worker J W). m.refused) ms3 ≡ false
-      → All (λ (m : Worker J W). IsStopped m ⊎ HasNothingLeft m) ms3 → owns' ≡ map (λ (m : Worker J W). m.own) ms3 → TurnedOrLeft turned first owns [] owns'
-  ran_bare owns' no_halt no_refusal end is =
-      settles turned first owns ended.0 ms3 [] owns' (all_bare ms3 no_halt no_refusal end) ended.2 is (inl refl) ended.1
-
-  pub ran_drained : (ms4 : List (Worker J W)) (out : List J) (owns' : List W) → list_any (λ (m : Worker J W). m.halted) ms3 ≡ true → AllMoved ms3 [] ms4 out → All HasNothingLeft ms4
-      → owns' ≡ map (λ (m : Worker J W). m.own) ms4 → TurnedOrLeft turned first owns out owns'
-  ran_drained ms4 out owns' halt group bare is =
-      settles turned first owns ended.0 ms4 out owns' bare (whole_by_frames ms3 ms4 group.frames ended.2) is
-      (inr (any_same self_of (λ (x : ℕ × W × Bool). x.2) ms4 ms3 group.selves ∙ halt)) (drained_on turned first owns ended.0 ms3 ms4 [] out group ended.1)
+      let c = worked_on turned first owns a.0 ms2 ms3 [] rest b in
+      let whole = whole_by_work turned ms2 ms3 rest gathered.whole in
+      settles turned first owns c.0 ms4 out owns' none (whole_by_frames ms3 ms4 moved.frames whole) is
+      (elim halted [ inl e ↦ inl e | inr e ↦ inr (any_same self_of (λ (x : ℕ × W × Bool). x.2) ms4 ms3 moved.selves ∙ e) ])
+      (drained_on turned first owns c.0 ms3 ms4 [] out moved c.1)

@@ -1,5 +1,6 @@
 -- The workers of a run are made one after another, and their jobs are taken one after another.
-use Rattle.std.proofs.Common.{◌≡◌, ◌≢◌, ℕ, ◌+◌, ◌<◌, ◌≤◌, false, List, [], ◌∷◌, ◌++◌, length, set, get_or, map, All, None, inl, inr, sym, refl, ap, ◌∙◌, subst, arith, append_assoc, length-append}
+use Rattle.std.proofs.Common.{◌≡◌, ◌≢◌, ◌⊎◌, ℕ, ◌+◌, ◌<◌, ◌≤◌, false, List, [], ◌∷◌, ◌++◌, length, set, get_or, map, All, None, inl, inr, sym, refl, ap, ◌∙◌, subst, arith, append_assoc, length-append}
+use Rattle.std.proofs.lemmas.Bool.{cases_lt}
 use Rattle.std.proofs.lemmas.List.{get_or-set_same, get_or-set_other, length-map, map-append, append-nil}
 use Rattle.std.proofs.Math.ListN.{get_or-append}
 use Rattle.std.proofs.Math.Seq.{map-set_same, get_or-append_seam}
@@ -7,7 +8,7 @@ use Rattle.steal_pool.specs.declared.thief.Thief.{Thief}
 use Rattle.steal_pool.specs.declared.worker.Worker.{Worker}
 use Rattle.steal_pool.specs.Thieves.{frame, put_weight, taken_weight, AreNew}
 use Rattle.steal_pool.specs.Workers.{held_weight, Moved}
-use Rattle.steal_pool.specs.AllWorkers.{self_of, AllMoved, AreStart}
+use Rattle.steal_pool.specs.AllWorkers.{self_of, AllMoved, AreNewWorkers}
 use Rattle.steal_pool.proofs.Rule.{weigh-append}
 use Rattle.steal_pool.proofs.Lists.{weigh-set, All-snoc, equal_or, same_at}
 
@@ -48,7 +49,7 @@ module _ {J W : Type 0} where
       ((let a = ap length e.values in omega (arith, length-append (map f ms) owns, length-map ms f)), (let a = ap length e.passes in omega (arith, length-append (map t ms) thieves, length-map ms t)))
 
   pub all_enrolled : (owns0 : List W) (thieves0 : List (Thief J)) (ms : List (Worker J W)) (owns : List W) (thieves : List (Thief J)) → owns ≡ [] → thieves ≡ [] → length ms ≤ 64 → 0 < length ms → AreNew thieves0
-      → Enrolled owns0 thieves0 ms owns thieves → AreStart owns0 ms
+      → Enrolled owns0 thieves0 ms owns thieves → AreNewWorkers owns0 ms
   all_enrolled owns0 thieves0 ms owns thieves none none' few some new e =
       let f : Worker J W → W = λ m. m.own in
       let t : Worker J W → Thief J = λ m. m.thief in
@@ -108,3 +109,8 @@ module _ {J W : Type 0} where
   pub rest_more : (old ms : List (Worker J W)) (k : ℕ) (m : Worker J W) → ((i : ℕ) (d : Worker J W) → k ≤ i → get_or ms i d ≡ get_or old i d)
       → (i : ℕ) (d : Worker J W) → k + 1 ≤ i → get_or (set ms k m) i d ≡ get_or old i d
   rest_more old ms k m rest i d b = let n : i ≢ k = λ e. absurd (omega arith) in get_or-set_other ms k i m d n ∙ rest i d (omega arith)
+
+  -- one element after the other was changed, and the others stand
+  pub done_or_same : (R : Worker J W → Worker J W → Type 0) (old ms : List (Worker J W)) (k : ℕ) → ((m : Worker J W) → R m m) → ((i : ℕ) (d : Worker J W) → k ≤ i → get_or ms i d ≡ get_or old i d)
+      → ((i : ℕ) (d : Worker J W) → i < k → i < length old → R (get_or old i d) (get_or ms i d)) → (i : ℕ) (d : Worker J W) → i < length old → R (get_or old i d) (get_or ms i d)
+  done_or_same R old ms k same rest done i d l = elim (cases_lt i k) [ inl b ↦ done i d b l | inr b ↦ subst (R (get_or old i d)) (sym (rest i d b)) (same (get_or old i d)) ]

@@ -10,9 +10,9 @@ use Rattle.steal_pool.specs.declared.worker.Worker.{Worker}
 use Rattle.steal_pool.specs.Balance.{weigh, tally, with_put}
 use Rattle.steal_pool.specs.Deques.{own_tally, own_id, victim_tally, victim_id}
 use Rattle.steal_pool.specs.Thieves.{Id, victim_frame, frame, put_weight, taken_weight, HasMade, IsRow}
-use Rattle.steal_pool.specs.Turns.{Turn, Chain, turned_weight, given_weight}
+use Rattle.steal_pool.specs.Turns.{Turn, Chain, StopsAtHalt, turned_weight, given_weight}
 use Rattle.steal_pool.specs.Workers.{held_weight, LeavesOnlyIfStopped}
-use Rattle.steal_pool.specs.AllWorkers.{id_of, AllWorked, AreStart, HaveAllPasses}
+use Rattle.steal_pool.specs.AllWorkers.{id_of, AllWorked, AreNewWorkers, AreStarted, HaveAllPasses}
 use Rattle.steal_pool.proofs.Rule.{weigh-append}
 use Rattle.steal_pool.proofs.Lists.{weigh-set, map_map, at_same, none_any, weigh_none, map_pointwise}
 use Rattle.steal_pool.proofs.Gathering.{mark_of}
@@ -39,7 +39,7 @@ module _ {J : Type 0} where
       (λ i. (victim_id r, one i) ∷ rest i)
 
 module _ {J W : Type 0} where
-  thief_at : (owns : List W) (ms : List (Worker J W)) (start : AreStart owns ms) (k : ℕ) (d : Worker J W) → k < length ms
+  thief_at : (owns : List W) (ms : List (Worker J W)) (start : AreNewWorkers owns ms) (k : ℕ) (d : Worker J W) → k < length ms
       → HasMade (length ms) (get_or ms k d).thief.own × IsRow start.thieves.0 (get_or ms k d).thief.victims.items
   thief_at owns ms start k d l =
       let f : Worker J W → Thief J = λ m. m.thief in
@@ -57,58 +57,13 @@ module _ {J W : Type 0} where
   nil_at (x ∷ xs) zero d l = refl
   nil_at (x ∷ xs) (suc k) d l = nil_at xs k d (omega arith)
 
-  module _ (owns : List W) (ms : List (Worker J W)) (m : Worker J W) (first : J) (start : AreStart owns ms)
+  module _ (owns : List W) (ms : List (Worker J W)) (m : Worker J W) (first : J) (start : AreNewWorkers owns ms)
       (victims : m.thief.victims ≡ (get_or ms 0 m).thief.victims) (id : own_id m.thief.own ≡ own_id (get_or ms 0 m).thief.own)
       (put : own_tally m.thief.own ≡ with_put (own_tally (get_or ms 0 m).thief.own) (first ∷ []))
       (number : m.number ≡ (get_or ms 0 m).number) (own : m.own ≡ (get_or ms 0 m).own) (next' : m.next ≡ (get_or ms 0 m).next)
       (left : m.left ≡ (get_or ms 0 m).left) (halted : m.halted ≡ (get_or ms 0 m).halted) where
-    pub started : (turned : ℕ → W → J → List J → Bool → W → Type 0) → Account turned first owns (map no_turns (set ms 0 m)) (set ms 0 m) []
-    started turned =
-        let now = get_or ms 0 m in
-        let ms1 = set ms 0 m in
-        let len = length-set ms 0 m in
-        let none : Worker J W → List (Turn J) = no_turns in
-        let owns_same : map (λ (x : Worker J W). x.own) ms1 ≡ owns = map-set_same (λ (x : Worker J W). x.own) ms 0 m m own ∙ start.values in
-        let numbers = map-set_same (λ (x : Worker J W). x.number) ms 0 m m number in
-        let halts = map-set_same (λ (x : Worker J W). x.halted) ms 0 m m halted in
-        record {
-          workers = length-map ms1 none;
-          count = sym (ap length owns_same) ∙ length-map ms1 (λ (x : Worker J W). x.own);
-          numbers = λ i d l. at_same (λ (x : Worker J W). x.number) ms1 ms i d d l numbers ∙ start.workers i d (omega (arith, len));
-          chains = λ i o e d l.
-              subst (λ ts. Chain (turned i) (get_or owns i o) ts (get_or ms1 i d).own) (sym (get_or-map none ms1 i d e l))
-              (ap (λ os. get_or os i o) (sym owns_same) ∙ get_or-map (λ (x : Worker J W). x.own) ms1 i d o l);
-          halted = λ e. absurd (true_or_false _ e (none_any (λ (x : Worker J W). x.halted) ms1 (λ k d l.
-              at_same (λ (x : Worker J W). x.halted) ms1 ms k d d l halts ∙ (start.free k d (omega (arith, len))).2)));
-          balance = λ h.
-              let given = weigh_none (given_weight h) (map none ms1) (λ k d l. ap (given_weight h) (nil_at ms1 k d l)) in
-              let turned' = weigh_none (turned_weight h) (map none ms1) (λ k d l. ap (turned_weight h) (nil_at ms1 k d l)) in
-              let p0 = weigh_none (λ (x : Worker J W). put_weight h x.thief) ms (λ k d l. nothing_put h (length ms) start.thieves.0 (get_or ms k d).thief (thief_at owns ms start k d l)) in
-              let t0 = weigh_none (λ (x : Worker J W). taken_weight h x.thief) ms (λ k d l. nothing_taken h (length ms) start.thieves.0 (get_or ms k d).thief (thief_at owns ms start k d l)) in
-              let h0 = weigh_none (held_weight h) ms (λ k d l. let f = start.free k d l in let a = ap (λ o. weigh h (option_to_list o)) f.0 in let b = ap (weigh h) f.1 in omega arith) in
-              let sp = weigh-set (λ (x : Worker J W). put_weight h x.thief) ms 0 m m start.some in
-              let st = weigh-set (λ (x : Worker J W). taken_weight h x.thief) ms 0 m m start.some in
-              let sh = weigh-set (held_weight h) ms 0 m m start.some in
-              let a = ap (λ (v : Tally J). weigh h v.put) put in
-              let b = ap (λ (v : Tally J). weigh h v.taken) put in
-              let r = ap (λ (v : Vec (Victim J) Global). weigh (λ x. weigh h (victim_tally x).put) v.items) victims in
-              let q = ap (λ (v : Vec (Victim J) Global). weigh (λ x. weigh h (victim_tally x).taken) v.items) victims in
-              let y = ap (λ o. weigh h (option_to_list o)) next' in
-              let z = ap (λ l. weigh h l.items) left in
-              omega (arith, weigh-append h (own_tally now.thief.own).put (first ∷ []));
-        }
-      where
-        true_or_false : (x : Bool) → x ≡ true → x ≡ false → ⊥
-        true_or_false x e f = cc
-
-    pub all_pushed : All LeavesOnlyIfStopped (set ms 0 m)
-    all_pushed k d l =
-        let len = length-set ms 0 m in
-        let lefts = map-set_same (λ (x : Worker J W). x.left) ms 0 m m left in
-        inl (ap (λ x. x.items) (at_same (λ (x : Worker J W). x.left) (set ms 0 m) ms k d d l lefts) ∙ (start.free k d (omega (arith, len))).1)
-
-    pub tied_first : HaveAllPasses (set ms 0 m)
-    tied_first =
+    passes_kept : HaveAllPasses (set ms 0 m)
+    passes_kept =
         let ms1 = set ms 0 m in
         let len = length-set ms 0 m in
         let few = start.few in
@@ -127,6 +82,66 @@ module _ {J W : Type 0} where
                 ap (λ (x : Id × ℕ × List (Id × ℕ)). x.2) e ∙ (frames_of_row (get_or ms k d).thief.victims.items new.1.1 ∙ (ap (map (λ (i : Id). (i, 1))) new.1.0 ∙ (sym mark_ids ∙ sym marks))),
               ),
         )
+
+    pub started : AreStarted owns first (set ms 0 m)
+    started =
+        let now = get_or ms 0 m in
+        let ms1 = set ms 0 m in
+        let len = length-set ms 0 m in
+        let p0 = λ (h : J → ℕ). weigh_none (λ (x : Worker J W). put_weight h x.thief) ms (λ k d l. nothing_put h (length ms) start.thieves.0 (get_or ms k d).thief (thief_at owns ms start k d l)) in
+        let t0 = λ (h : J → ℕ). weigh_none (λ (x : Worker J W). taken_weight h x.thief) ms (λ k d l. nothing_taken h (length ms) start.thieves.0 (get_or ms k d).thief (thief_at owns ms start k d l)) in
+        let h0 = λ (h : J → ℕ). weigh_none (held_weight h) ms (λ k d l. let f = start.free k d l in let a = ap (λ o. weigh h (option_to_list o)) f.0 in let b = ap (weigh h) f.1 in omega arith) in
+        record {
+          values = map-set_same (λ (x : Worker J W). x.own) ms 0 m m own ∙ start.values;
+          numbers = λ i d l. at_same (λ (x : Worker J W). x.number) ms1 ms i d d l (map-set_same (λ (x : Worker J W). x.number) ms 0 m m number) ∙ start.workers i d (omega (arith, len));
+          free = λ k d l.
+              let f = start.free k d (omega (arith, len)) in (
+                ap (λ x. x.items) (at_same (λ (x : Worker J W). x.left) ms1 ms k d d l (map-set_same (λ (x : Worker J W). x.left) ms 0 m m left)) ∙ f.1,
+                at_same (λ (x : Worker J W). x.halted) ms1 ms k d d l (map-set_same (λ (x : Worker J W). x.halted) ms 0 m m halted) ∙ f.2,
+              );
+          passes = passes_kept;
+          put = λ h.
+              let s = weigh-set (λ (x : Worker J W). put_weight h x.thief) ms 0 m m start.some in
+              let a = ap (λ (v : Tally J). weigh h v.put) put in
+              let r = ap (λ (v : Vec (Victim J) Global). weigh (λ x. weigh h (victim_tally x).put) v.items) victims in
+              omega (arith, p0 h, weigh-append h (own_tally now.thief.own).put (first ∷ []));
+          taken = λ h.
+              let s = weigh-set (λ (x : Worker J W). taken_weight h x.thief) ms 0 m m start.some in
+              let a = ap (λ (v : Tally J). weigh h v.taken) put in
+              let r = ap (λ (v : Vec (Victim J) Global). weigh (λ x. weigh h (victim_tally x).taken) v.items) victims in
+              omega (arith, t0 h);
+          held = λ h.
+              let s = weigh-set (held_weight h) ms 0 m m start.some in
+              let y = ap (λ o. weigh h (option_to_list o)) next' in
+              let z = ap (λ l. weigh h l.items) left in
+              omega (arith, h0 h);
+        }
+
+  -- the account of a run that has started
+  pub begun : (turned : ℕ → W → J → List J → Bool → W → Type 0) (owns : List W) (first : J) (ms : List (Worker J W)) → AreStarted owns first ms → Account turned first owns (map no_turns ms) ms []
+  begun turned owns first ms start =
+      let none : Worker J W → List (Turn J) = no_turns in
+      let values = start.values in
+      record {
+        workers = length-map ms none;
+        count = sym (ap length values) ∙ length-map ms (λ (x : Worker J W). x.own);
+        numbers = start.numbers;
+        chains = λ i o e d l.
+            subst (λ ts. Chain (turned i) (get_or owns i o) ts (get_or ms i d).own) (sym (get_or-map none ms i d e l))
+            (ap (λ os. get_or os i o) (sym values) ∙ get_or-map (λ (x : Worker J W). x.own) ms i d o l);
+        stops = λ i e d l. subst (λ ts. StopsAtHalt false ts (get_or ms i d).halted) (sym (get_or-map none ms i d e l)) (start.free i d l).1;
+        halted = λ e. absurd (true_or_false _ e (none_any (λ (x : Worker J W). x.halted) ms (λ k d l. (start.free k d l).1)));
+        balance = λ h.
+            let given = weigh_none (given_weight h) (map none ms) (λ k d l. ap (given_weight h) (nil_at ms k d l)) in
+            let turned' = weigh_none (turned_weight h) (map none ms) (λ k d l. ap (turned_weight h) (nil_at ms k d l)) in
+            omega (arith, start.put h, start.taken h, start.held h);
+      }
+    where
+      true_or_false : (x : Bool) → x ≡ true → x ≡ false → ⊥
+      true_or_false x e f = cc
+
+  pub none_stopped : (owns : List W) (first : J) (ms : List (Worker J W)) → AreStarted owns first ms → All LeavesOnlyIfStopped ms
+  none_stopped owns first ms start k d l = inl (start.free k d l).0
 
   -- the passes stay where turns are made
   pub still_tied : (turned : ℕ → W → J → List J → Bool → W → Type 0) (ms ms' : List (Worker J W)) → AllWorked turned ms ms' → HaveAllPasses ms → HaveAllPasses ms'

@@ -1,12 +1,12 @@
 -- What a worker did, put together.
-use Rattle.std.proofs.Common.{◌≡◌, ℕ, ◌+◌, Bool, true, ◌⊎◌, inl, inr, List, [], ◌∷◌, ◌++◌, Option, Some, None, sym, refl, ap, ◌∙◌, subst, arith}
+use Rattle.std.proofs.Common.{◌≡◌, ℕ, ◌+◌, Bool, true, false, ◌⊎◌, inl, inr, List, [], ◌∷◌, ◌++◌, Option, Some, None, sym, refl, ap, ◌∙◌, subst, arith}
 use Rattle.std.specs.Option.{option_to_list}
 use Rattle.steal_pool.specs.declared.worker.Worker.{Worker}
 use Rattle.steal_pool.specs.declared.tally.Tally.{Tally}
 use Rattle.steal_pool.specs.Balance.{weigh, WasEmpty}
 use Rattle.steal_pool.specs.Deques.{TookFirst}
 use Rattle.steal_pool.specs.Thieves.{frame, put_weight, taken_weight, Transfers}
-use Rattle.steal_pool.specs.Turns.{Turn, Chain, Halts}
+use Rattle.steal_pool.specs.Turns.{Turn, Chain, StopsAtHalt, EndsAtHalt, Halts}
 use Rattle.steal_pool.specs.Workers.{held_weight, Moved, Worked}
 use Rattle.steal_pool.proofs.Rule.{weigh-append}
 
@@ -22,6 +22,26 @@ halts_left (t ∷ ts) us (inr h) = inr (halts_left ts us h)
 pub halts_right : {J : Type 0} (ts us : List (Turn J)) → Halts us → Halts (ts ++ us)
 halts_right [] us h = h
 halts_right (t ∷ ts) us h = inr (halts_right ts us h)
+
+pub stops_append : {J : Type 0} (a b c : Bool) (ts us : List (Turn J)) → StopsAtHalt a ts b → StopsAtHalt b us c → StopsAtHalt a (ts ++ us) c
+stops_append a b c [] us p q = subst (λ x. StopsAtHalt x us c) p q
+stops_append a b c (t ∷ ts) us p q = (p.0, stops_append t.halt b c ts us p.1 q)
+
+-- who has said halt in the end had said so before, or said so in a turn
+pub halts_of : {J : Type 0} (a b : Bool) (ts : List (Turn J)) → StopsAtHalt a ts b → b ≡ true → (a ≡ true) ⊎ Halts ts
+halts_of a b [] p e = inl (sym p ∙ e)
+halts_of a b (t ∷ ts) p e = elim (halts_of t.halt b ts p.1 e) [ inl f ↦ inr (inl f) | inr h ↦ inr (inr h) ]
+
+nothing_after : {J : Type 0} (a b : Bool) (ts : List (Turn J)) → StopsAtHalt a ts b → a ≡ true → ts ≡ []
+nothing_after a b [] p e = refl
+nothing_after a b (t ∷ ts) p e = absurd (both a e p.0)
+  where
+    both : (x : Bool) → x ≡ true → x ≡ false → ⊥
+    both x e f = cc
+
+pub ends_of : {J : Type 0} (a b : Bool) (ts : List (Turn J)) → StopsAtHalt a ts b → EndsAtHalt ts
+ends_of a b [] p = tt
+ends_of a b (t ∷ ts) p = (λ h. nothing_after t.halt b ts p.1 h, ends_of t.halt b ts p.1)
 
 pub was_empty : {J : Type 0} (v w : Tally J) (found_empty found_empty' : ℕ) (result : Option J) → result ≡ None → TookFirst v found_empty w found_empty' result → WasEmpty w
 was_empty v w f f' None e took = subst WasEmpty (sym took.0) took.2
@@ -93,7 +113,7 @@ module _ {J W : Type 0} where
       number = p.number;
       turns = [];
       chain = sym p.own;
-      halted = λ e. inl (sym p.halted ∙ e);
+      stops = p.halted;
       balance = λ h. omega (arith, p.balance h);
     }
 
@@ -103,17 +123,17 @@ module _ {J W : Type 0} where
       number = q.number ∙ p.number;
       turns = p.turns ++ q.turns;
       chain = chain_append (turned a.number) a.own b.own c.own p.turns q.turns p.chain (subst (λ n. Chain (turned n) b.own q.turns c.own) p.number q.chain);
-      halted = λ e. elim (q.halted e) [ inl f ↦ elim (p.halted f) [ inl g ↦ inl g | inr s ↦ inr (halts_left p.turns q.turns s) ] | inr s ↦ inr (halts_right p.turns q.turns s) ];
+      stops = stops_append a.halted b.halted c.halted p.turns q.turns p.stops q.stops;
       balance = λ h. omega (arith, p.balance h, q.balance h, weigh-append (λ (t : Turn J). h t.job) p.turns q.turns, weigh-append (λ (t : Turn J). weigh h t.more) p.turns q.turns);
     }
 
     pub one_turn : (m m2 : Worker J W) (job : J) (more went : List J) (halt : Bool) → turned m.number m.own job more halt m2.own → m2.thief ≡ m.thief → m2.number ≡ m.number
-        → (m2.halted ≡ true → (m.halted ≡ true) ⊎ (halt ≡ true)) → ((h : J → ℕ) → weigh h more + held_weight h m ≡ weigh h went + held_weight h m2) → Worked turned m (job ∷ []) m2 went
-    one_turn m m2 job more went halt done thief number halted balance = record {
+        → m.halted ≡ false → m2.halted ≡ halt → ((h : J → ℕ) → weigh h more + held_weight h m ≡ weigh h went + held_weight h m2) → Worked turned m (job ∷ []) m2 went
+    one_turn m m2 job more went halt done thief number fresh halted balance = record {
       frames = ap frame thief;
       number = number;
       turns = record { job = job; more = more; halt = halt } ∷ [];
       chain = (m2.own, done, refl);
-      halted = λ e. elim (halted e) [ inl f ↦ inl f | inr f ↦ inr (inl f) ];
+      stops = (fresh, halted);
       balance = λ h. let a = ap (taken_weight h) thief in let b = ap (put_weight h) thief in omega (arith, balance h, a, b);
     }

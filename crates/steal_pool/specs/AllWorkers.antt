@@ -1,11 +1,12 @@
 -- What the workers of a run did, all together.
-use Rattle.std.specs.Prelude.{◌≡◌, ℕ, ◌+◌, ◌<◌, ◌≤◌, Bool, false, List, [], length, map, All, None, slice_index_or}
+use Rattle.std.specs.Prelude.{◌≡◌, ℕ, ◌+◌, ◌<◌, ◌≤◌, ◌⊎◌, Bool, true, false, List, [], length, map, All, None, slice_index_or}
+use Rattle.std.specs.List.{list_any}
 use Rattle.steal_pool.specs.declared.deque.Victim.{Victim}
 use Rattle.steal_pool.specs.declared.worker.Worker.{Worker}
 use Rattle.steal_pool.specs.Balance.{weigh}
 use Rattle.steal_pool.specs.Deques.{own_tally, own_id, victim_tally}
 use Rattle.steal_pool.specs.Thieves.{Id, victim_frame, frame, put_weight, taken_weight, AreNew}
-use Rattle.steal_pool.specs.Workers.{held_weight, Worked}
+use Rattle.steal_pool.specs.Workers.{held_weight, Worked, HasNothingLeft}
 
 module _ {J W : Type 0} where
   -- which deque is a worker's own, and its parts of it
@@ -20,7 +21,7 @@ module _ {J W : Type 0} where
   AllWorked turned ms ms' = (length ms' ≡ length ms) × ((i : ℕ) (d : Worker J W) → i < length ms → Worked turned (slice_index_or ms i d) [] (slice_index_or ms' i d) [])
 
   -- new workers with these values
-  pub record AreStart (owns : List W) (ms : List (Worker J W)) : Type 0 where
+  pub record AreNewWorkers (owns : List W) (ms : List (Worker J W)) : Type 0 where
     pub values : map (λ (m : Worker J W). m.own) ms ≡ owns
     pub thieves : AreNew (map (λ (m : Worker J W). m.thief) ms)
     pub workers : (i : ℕ) (d : Worker J W) → i < length ms → (slice_index_or ms i d).number ≡ i
@@ -73,3 +74,25 @@ module _ {J W : Type 0} where
     pub frames : map (λ m. frame m.thief) ms' ≡ map (λ m. frame m.thief) ms
     pub balance : (h : J → ℕ) → weigh h came + weigh (held_weight h) ms + weigh (λ m. taken_weight h m.thief) ms' + weigh (λ m. put_weight h m.thief) ms
         ≡ weigh h went + weigh (held_weight h) ms' + weigh (λ m. taken_weight h m.thief) ms + weigh (λ m. put_weight h m.thief) ms'
+
+  -- turns were done, all passes came back, and then more turns were done
+  abbrev pub RanAll : (ℕ → W → J → List J → Bool → W → Type 0) → List (Worker J W) → List (Worker J W) → Type 0
+  RanAll turned ms ms' = (ms1 : List (Worker J W)) × (ms2 : List (Worker J W)) × AllWorked turned ms ms1 × AreGathered ms1 ms2 × AllWorked turned ms2 ms'
+
+  -- a worker said halt, or a push of it was refused
+  abbrev pub SomeStopped : List (Worker J W) → Type 0
+  SomeStopped ms = (list_any (λ m. m.halted) ms ≡ true) ⊎ (list_any (λ m. m.refused) ms ≡ true)
+
+  -- a worker has stopped, or no job is left
+  abbrev pub IsOver : List (Worker J W) → Type 0
+  IsOver ms = SomeStopped ms ⊎ All HasNothingLeft ms
+
+  -- new workers with these values, in one of whose deques the first job was put; nothing else was put or taken
+  pub record AreStarted (owns : List W) (first : J) (ms : List (Worker J W)) : Type 0 where
+    pub values : map (λ (m : Worker J W). m.own) ms ≡ owns
+    pub numbers : (i : ℕ) (d : Worker J W) → i < length ms → (slice_index_or ms i d).number ≡ i
+    pub free : All (λ (m : Worker J W). (m.left.items ≡ []) × (m.halted ≡ false)) ms
+    pub passes : HaveAllPasses ms
+    pub put : (h : J → ℕ) → weigh (λ m. put_weight h m.thief) ms ≡ h first
+    pub taken : (h : J → ℕ) → weigh (λ m. taken_weight h m.thief) ms ≡ 0
+    pub held : (h : J → ℕ) → weigh (held_weight h) ms ≡ 0

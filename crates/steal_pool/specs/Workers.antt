@@ -1,11 +1,11 @@
 -- What a worker did with its jobs.
-use Rattle.std.specs.Prelude.{◌≡◌, ℕ, ◌+◌, Bool, true, ◌⊎◌, List, [], None}
+use Rattle.std.specs.Prelude.{◌≡◌, ℕ, ◌+◌, Bool, true, false, ◌⊎◌, List, [], None}
 use Rattle.std.specs.Option.{option_to_list}
 use Rattle.steal_pool.specs.declared.worker.Worker.{Worker}
 use Rattle.steal_pool.specs.Balance.{weigh, WasEmpty}
 use Rattle.steal_pool.specs.Deques.{own_tally}
 use Rattle.steal_pool.specs.Thieves.{frame, put_weight, taken_weight}
-use Rattle.steal_pool.specs.Turns.{Turn, Chain, turned_weight, given_weight, Halts}
+use Rattle.steal_pool.specs.Turns.{Turn, Chain, StopsAtHalt, turned_weight, given_weight}
 
 module _ {J W : Type 0} where
   -- the weights of the jobs that a worker has outside its deque
@@ -27,9 +27,13 @@ module _ {J W : Type 0} where
     pub number : m'.number ≡ m.number
     pub turns : List (Turn J)
     pub chain : Chain (turned m.number) m.own turns m'.own
-    pub halted : m'.halted ≡ true → (m.halted ≡ true) ⊎ Halts turns
+    pub stops : StopsAtHalt m.halted turns m'.halted
     pub balance : (h : J → ℕ) → weigh h came + held_weight h m + given_weight h turns + taken_weight h m'.thief + put_weight h m.thief
         ≡ turned_weight h turns + weigh h went + held_weight h m' + taken_weight h m.thief + put_weight h m'.thief
+
+  -- no job is with the worker outside its deque, and no turn of it said halt
+  abbrev pub IsFree : Worker J W → Type 0
+  IsFree m = (m.next ≡ None) × (m.left.items ≡ []) × (m.halted ≡ false)
 
   -- a turn said halt, or a push was refused
   abbrev pub IsStopped : Worker J W → Type 0

@@ -2,7 +2,7 @@
 ghost use Rattle.std.specs.Prelude.{◌≡◌, ◌<◌};
 ghost use Rattle.crossbeam_deque.specs.Handles.{view, IsPassOf, worker_view, worker_flavor, stealer_deque, stealer_flavor};
 
-use crate::tally::{Balance, SplitOff, Tally, Puts, Takes, Merge};
+use crate::tally::{Balance, Merge, Puts, SplitOff, Takes, Tally};
 use crossbeam_deque::{Pass, Steal, Stealer, Worker};
 use crossbeam_utils::Backoff;
 use fut_base::list::NoMemory;
@@ -42,7 +42,10 @@ impl<J: Drop> OwnDeque<J> {
         ensures { IfOk result (λ o. (own_tally o ≡ tally 65 [] []) × (o.found_empty ≡ 0)) }
     {
         let deque = Worker::fifo_as(alloc, CAPACITY)?;
-        Ok(OwnDeque { deque, found_empty: 0 })
+        Ok(OwnDeque {
+            deque,
+            found_empty: 0,
+        })
     }
 
     /// What a pass knows is known here.

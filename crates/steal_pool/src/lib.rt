@@ -3,14 +3,15 @@
 //! `thieves` makes the deques; `run_jobs` turns a first job and all that its turns give, each once, on up to 64 threads.
 #![tactic(auto)]
 
-mod sleep;
-mod gather;
-pub mod tally;
-mod worker;
-pub mod pool;
 pub mod deque;
+mod gather;
+pub mod pool;
+mod sleep;
+mod start;
+pub mod tally;
 pub mod thief;
 mod work;
+mod worker;
 
 pub use work::{Body, Turned};
 

@@ -26,7 +26,7 @@ impl<J> Thief<J> {
         u32::try_from(self.victims.len()).unwrap_or(u32::MAX)
     }
 
-    /// Adds the job at the end of its own deque. `Err` tallies the job back, and comes for want of memory; the deque's
+    /// Adds the job at the end of its own deque. `Err` hands the job back, and comes for want of memory; the deque's
     /// own greatest size counts as such.
     pub fn push(&mut self, job: J) -> Result<(), J>
         ensures victims { self.new.victims ≡ self.old.victims }

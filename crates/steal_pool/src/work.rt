@@ -4,11 +4,11 @@ ghost use Rattle.std.specs.Option.{option_to_list};
 ghost use Rattle.steal_pool.specs.Thieves.{Transfers};
 ghost use Rattle.steal_pool.specs.Balance.{WasEmpty};
 ghost use Rattle.steal_pool.specs.Deques.{own_tally};
-ghost use Rattle.steal_pool.specs.Workers.{Moved, Worked, LeavesOnlyIfStopped, IsStopped, HasNothingLeft};
+ghost use Rattle.steal_pool.specs.Workers.{Moved, Worked, LeavesOnlyIfStopped, IsStopped, IsFree, HasNothingLeft};
 
 use crate::sleep::Sleep;
-use crate::worker::Worker;
 use crate::thief::Thief;
+use crate::worker::Worker;
 use crossbeam_utils::Backoff;
 use fut_base::ready::Ready;
 use std::sync::Wait;
@@ -63,7 +63,7 @@ pub(crate) fn turn_own<J: Drop, W, B: Body<J, W>, R: Wait>(
 {
     let sleep = Sleep::make(1);
     for _ in rt.forever() {
-        if worker.halted || worker.refused {
+        if worker.has_stopped() {
             return;
         }
         let Some(job) = own_job(worker) else {
@@ -74,13 +74,14 @@ pub(crate) fn turn_own<J: Drop, W, B: Body<J, W>, R: Wait>(
     unreachable!()
 }
 
-// The job to turn next, its own or a stolen one.
+// The job to turn next, its own or a stolen one; none once the worker or the run has stopped.
 fn next_job<J: Drop, W, R: Wait>(rt: &R, sleep: &Sleep, worker: &mut Worker<J, W>) -> Option<J>
+    requires { LeavesOnlyIfStopped worker.old }
     ensures moved { Moved worker.old [] worker.new (option_to_list result) }
     ensures same { (worker.new.left ≡ worker.old.left) × (worker.new.halted ≡ worker.old.halted) × (worker.new.refused ≡ worker.old.refused) }
-    ensures free { IfSome result (λ _. (worker.new.next ≡ None) × (worker.new.left.items ≡ [])) }
+    ensures free { IfSome result (λ _. IsFree worker.new) }
 {
-    if sleep.has_stopped() || worker.left.len() > 0 {
+    if worker.has_stopped() || sleep.has_stopped() {
         return None;
     }
     if let Some(job) = own_job(worker) {
@@ -127,7 +128,12 @@ fn find_job<J: Drop, R: Wait>(rt: &R, sleep: &Sleep, thief: &mut Thief<J>, numbe
 }
 
 // A job that the last look before a sleep finds; else none, after the sleep.
-fn find_or_sleep<J: Drop, R: Wait>(rt: &R, sleep: &Sleep, thief: &mut Thief<J>, number: u32) -> Option<J>
+fn find_or_sleep<J: Drop, R: Wait>(
+    rt: &R,
+    sleep: &Sleep,
+    thief: &mut Thief<J>,
+    number: u32,
+) -> Option<J>
     ensures { Transfers thief.old thief.new [] (option_to_list result) }
 {
     let seen = sleep.announce();
@@ -172,7 +178,7 @@ fn turn_job<J: Drop, W, B: Body<J, W>, R: Wait>(
     worker: &mut Worker<J, W>,
     job: J,
 )
-    requires { (worker.old.next ≡ None) × (worker.old.left.items ≡ []) }
+    requires { IsFree worker.old }
     ensures worked { Worked (B.turned body.now) worker.old (job ∷ []) worker.new [] }
     ensures pushed { LeavesOnlyIfStopped worker.new }
 {

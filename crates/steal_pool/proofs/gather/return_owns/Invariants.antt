@@ -1,7 +1,7 @@
 use Rattle.std.proofs.Common.{◌≡◌, ◌≤◌, ◌++◌, length, map}
 use Rattle.std.specs.Vec.Iter.{into_iter_items}
 use Rattle.steal_pool.specs.declared.worker.Worker.{Worker}
-use Rattle.steal_pool.proofs.pool.return_owns.Given as goal
+use Rattle.steal_pool.proofs.gather.return_owns.Given as goal
 
 abbrev pub invariant-loop-worker : goal.invariant-loop-worker
 invariant-loop-worker g l = record {

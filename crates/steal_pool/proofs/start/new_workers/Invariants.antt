@@ -1,6 +1,6 @@
 use Rattle.std.proofs.Common.{◌≡◌, ◌+◌, length}
 use Rattle.steal_pool.proofs.Enrolling.{Enrolled}
-use Rattle.steal_pool.proofs.pool.new_workers.Given as goal
+use Rattle.steal_pool.proofs.start.new_workers.Given as goal
 
 abbrev pub invariant-loop-number : goal.invariant-loop-number
 invariant-loop-number g l = record {

@@ -2,7 +2,7 @@ use Rattle.std.proofs.Common.{◌≡◌, [], ◌∷◌, ◌++◌, length, None, 
 use Rattle.steal_pool.specs.declared.worker.Worker.{Worker}
 use Rattle.steal_pool.proofs.Lists.{nil_of}
 use Rattle.steal_pool.proofs.Enrolling.{Enrolled, none_enrolled, one_enrolled, enrolled_counts, all_enrolled}
-use Rattle.steal_pool.proofs.pool.new_workers.Goals as goal
+use Rattle.steal_pool.proofs.start.new_workers.Goals as goal
 
 pub loop-number-init : goal.loop-number-init
 loop-number-init g c = record {

@@ -3,7 +3,7 @@ use Rattle.std.proofs.lemmas.List.{append-nil}
 use Rattle.std.specs.Vec.Iter.{into_iter_items}
 use Rattle.steal_pool.specs.declared.worker.Worker.{Worker}
 use Rattle.steal_pool.proofs.Lists.{nil_of}
-use Rattle.steal_pool.proofs.pool.return_owns.Goals as goal
+use Rattle.steal_pool.proofs.gather.return_owns.Goals as goal
 
 pub loop-worker-init : goal.loop-worker-init
 loop-worker-init g c =
