@@ -1,4 +1,5 @@
 //! Calls by words over a source and a sink in memory.
+mod guide;
 mod records;
 mod replays;
 mod runs;
