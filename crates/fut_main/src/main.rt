@@ -1,26 +1,14 @@
 //! The program `forder`: it runs a program of the task language, and reports its determinacy races; or checks the record of
 //! such a run.
 //!
-//! `forder` of the module `top` is the call that `main` makes. Its contract is the theorem.
+//! `forder` of the crate `fut_driver` is the call that `main` makes. Its contract is the theorem.
 #![tactic(auto)]
 
-mod gathered;
-mod input;
-mod judge;
-mod outcome;
-mod program;
-mod replay;
-mod run;
-mod status;
-#[cfg(test)]
-mod tests;
-mod top;
-
-use crate::status::{Ended, Status};
-use crate::top::forder;
 use command_words::words::Words;
 use fut_base::gate::FreeGate;
 use fut_base::standard::{StdSink, StdSource};
+use fut_driver::status::{Ended, Status};
+use fut_driver::top::forder;
 use std::env::Env;
 use std::process::ExitCode;
 use std::{env, io};
