@@ -1,5 +1,6 @@
 -- The jobs of a run, from its start to its end.
 use Rattle.std.proofs.Common.{◌≡◌, ℕ, zero, suc, ◌+◌, ◌<◌, Bool, true, false, ◌||◌, ◌⊎◌, List, [], ◌∷◌, ◌++◌, length, get_or, map, All, inl, inr, sym, refl, ap, ◌∙◌, subst, arith}
+use Rattle.std.proofs.lemmas.List.Elements.{All-cons, All-tail}
 use Rattle.std.specs.List.{list_any}
 use Rattle.std.specs.Option.{option_to_list}
 use Rattle.std.proofs.lemmas.List.{get_or-map, length-map}
@@ -13,7 +14,7 @@ use Rattle.steal_pool.specs.Workers.{held_weight, Worked, IsStopped, LeavesOnlyI
 use Rattle.steal_pool.specs.AllWorkers.{AllWorked, IsWhole, AreGathered, AllMoved, RanAll, IsOver, self_of}
 use Rattle.steal_pool.specs.Runs.{SomeHalts, TurnedOrLeft}
 use Rattle.steal_pool.proofs.Rule.{weigh-append, whole_empty}
-use Rattle.steal_pool.proofs.Lists.{All-cons, All-tail, map_nil, at_same, weigh_none}
+use Rattle.steal_pool.proofs.Lists.{map_nil, at_same, weigh_none}
 use Rattle.steal_pool.proofs.Shifting.{some_of}
 use Rattle.steal_pool.proofs.Working.{chain_append, stops_append, halts_of, ends_of, halts_left, halts_right}
 

@@ -1,7 +1,7 @@
 -- The workers of a run are made one after another, and their jobs are taken one after another.
 use Rattle.std.proofs.Common.{◌≡◌, ◌≢◌, ◌⊎◌, ℕ, ◌+◌, ◌<◌, ◌≤◌, false, List, [], ◌∷◌, ◌++◌, length, set, get_or, map, All, None, inl, inr, sym, refl, ap, ◌∙◌, subst, arith, append_assoc, length-append}
-use Rattle.std.proofs.lemmas.Bool.{cases_lt}
-use Rattle.std.proofs.lemmas.List.{get_or-set_same, get_or-set_other, length-map, map-append, append-nil}
+use Rattle.std.proofs.lemmas.Bool.{cases_lt, cases_eq}
+use Rattle.std.proofs.lemmas.List.{get_or-set_same, get_or-set_other, length-map, map-append, append-nil, get_or_default}
 use Rattle.std.proofs.Math.ListN.{get_or-append}
 use Rattle.std.proofs.Math.Seq.{map-set_same, get_or-append_seam}
 use Rattle.steal_pool.specs.declared.thief.Thief.{Thief}
@@ -10,7 +10,7 @@ use Rattle.steal_pool.specs.Thieves.{frame, put_weight, taken_weight, AreNew}
 use Rattle.steal_pool.specs.Workers.{held_weight, Moved}
 use Rattle.steal_pool.specs.AllWorkers.{self_of, AllMoved, AreNewWorkers}
 use Rattle.steal_pool.proofs.Rule.{weigh-append}
-use Rattle.steal_pool.proofs.Lists.{weigh-set, All-snoc, equal_or, same_at}
+use Rattle.steal_pool.proofs.Lists.{weigh-set, All-snoc}
 
 module _ {J W : Type 0} where
   abbrev pub IsFree : Worker J W → Type 0
@@ -34,7 +34,7 @@ module _ {J W : Type 0} where
       record {
         values = (λ i. map-append f ms (m ∷ []) i ++ owns') ∙ (append_assoc (map f ms) (m.own ∷ []) owns' ∙ (ap (λ xs. map f ms ++ xs) (sym is) ∙ e.values));
         passes = (λ i. map-append t ms (m ∷ []) i ++ thieves') ∙ (append_assoc (map t ms) (m.thief ∷ []) thieves' ∙ (ap (λ xs. map t ms ++ xs) (sym is') ∙ e.passes));
-        numbers = λ i d l. elim (equal_or (length ms) i) [
+        numbers = λ i d l. elim (cases_eq i (length ms)) [
           | inl s ↦ subst (λ j. (get_or (ms ++ m ∷ []) j d).number ≡ j) (sym s) (ap (λ (x : Worker J W). x.number) (get_or-append_seam ms m [] d) ∙ number)
           | inr n ↦ let b : i < length ms = let a = length-append ms (m ∷ []) in omega arith in ap (λ (x : Worker J W). x.number) (get_or-append ms (m ∷ []) d i b) ∙ e.numbers i d b
         ];
@@ -81,7 +81,7 @@ module _ {J W : Type 0} where
 
   pub bare_more : (P : Worker J W → Type 0) (ms : List (Worker J W)) (k : ℕ) (m : Worker J W) → k < length ms → P m → ((i : ℕ) (d : Worker J W) → i < k → P (get_or ms i d))
       → (i : ℕ) (d : Worker J W) → i < k + 1 → P (get_or (set ms k m) i d)
-  bare_more P ms k m l here below i d b = elim (equal_or k i) [
+  bare_more P ms k m l here below i d b = elim (cases_eq i k) [
     | inl e ↦ subst (λ j. P (get_or (set ms k m) j d)) (sym e) (subst P (sym (get_or-set_same ms k m d l)) here)
     | inr n ↦ subst P (sym (get_or-set_other ms k i m d n)) (below i d (omega arith))
   ]
@@ -94,15 +94,15 @@ module _ {J W : Type 0} where
   passes m m' xs p = record { frames = p.frames; number = p.number; own = p.own; halted = p.halted; balance = λ h. let a = p.balance h in omega arith }
 
   pub drained_one_at : (ms0 ms : List (Worker J W)) (xs ys zs : List J) (k : ℕ) (e m : Worker J W) → k < length ms → AllMoved ms0 xs ms ys → Moved (get_or ms k e) ys m zs → AllMoved ms0 xs (set ms k m) zs
-  drained_one_at ms0 ms xs ys zs k e m l g p = drained_one ms0 ms xs ys zs k m l g (subst (λ x. Moved x ys m zs) (same_at ms k e m l) p)
+  drained_one_at ms0 ms xs ys zs k e m l g p = drained_one ms0 ms xs ys zs k m l g (subst (λ x. Moved x ys m zs) (get_or_default ms k e m l) p)
 
   -- one element after the other was changed
   pub done_more : (R : Worker J W → Worker J W → Type 0) (old ms : List (Worker J W)) (k : ℕ) (e m : Worker J W) → k < length ms → R (get_or ms k e) m
       → ((i : ℕ) (d : Worker J W) → k ≤ i → get_or ms i d ≡ get_or old i d) → ((i : ℕ) (d : Worker J W) → i < k → i < length old → R (get_or old i d) (get_or ms i d))
       → (i : ℕ) (d : Worker J W) → i < k + 1 → i < length old → R (get_or old i d) (get_or (set ms k m) i d)
-  done_more R old ms k e m l here rest done i d b b' = elim (equal_or k i) [
+  done_more R old ms k e m l here rest done i d b b' = elim (cases_eq i k) [
     | inl s ↦ subst (λ j. R (get_or old j d) (get_or (set ms k m) j d)) (sym s)
-        (subst (R (get_or old k d)) (sym (get_or-set_same ms k m d l)) (subst (λ x. R x m) (same_at ms k e d l ∙ rest k d (omega arith)) here))
+        (subst (R (get_or old k d)) (sym (get_or-set_same ms k m d l)) (subst (λ x. R x m) (get_or_default ms k e d l ∙ rest k d (omega arith)) here))
     | inr n ↦ subst (R (get_or old i d)) (sym (get_or-set_other ms k i m d n)) (done i d (omega arith) b')
   ]
 

@@ -1,6 +1,7 @@
 -- The passes come back, one after another.
 use Rattle.std.proofs.Common.{◌≡◌, ◌≢◌, ℕ, ◌+◌, ◌<◌, ◌≤◌, Bool, List, [], ◌∷◌, ◌++◌, length, set, get_or, map, Vec, Global, inl, inr, sym, refl, ap, ◌∙◌, subst, arith, length-append}
-use Rattle.std.proofs.lemmas.List.{get_or-set_same, get_or-set_other, get_or-map, length-set, length-map}
+use Rattle.std.proofs.lemmas.Bool.{cases_eq}
+use Rattle.std.proofs.lemmas.List.{get_or-set_same, get_or-set_other, get_or-map, length-set, length-map, get_or_default}
 use Rattle.std.proofs.Math.ListN.{get_or-append}
 use Rattle.std.proofs.Math.Seq.{map-set_same, get_or-append_seam}
 use Rattle.std.specs.Option.{option_to_list}
@@ -14,7 +15,7 @@ use Rattle.steal_pool.specs.Thieves.{Id, victim_frame, put_weight, taken_weight}
 use Rattle.steal_pool.specs.Workers.{held_weight}
 use Rattle.steal_pool.specs.AllWorkers.{id_of, parts_of, self_of, rest_of, HaveAllPasses, AreGathered, IsReturned, Absorbs}
 use Rattle.steal_pool.proofs.Rule.{weigh-append}
-use Rattle.steal_pool.proofs.Lists.{weigh-set, equal_or, map_through, at_same, same_at, weigh_same}
+use Rattle.steal_pool.proofs.Lists.{weigh-set, map_through, at_same, weigh_same}
 
 module _ {J W : Type 0} where
   -- a worker's own deque, as a pass to it with one part would show it
@@ -71,14 +72,14 @@ module _ {J W : Type 0} where
       let one : (victim_tally r).parts ≡ 1 = ap (λ (x : Id × ℕ). x.1) (ap victim_frame (sym (ap (λ xs. get_or xs n r) is ∙ get_or-append_seam rest' r [] r)) ∙ so.front n r m l) in
       let more_parts : parts_of m ≡ parts_of now + 1 = ap (λ (v : Tally J). v.parts) tallies ∙ ap (λ p. parts_of now + p) one in
       let was : (d : Worker J W) → get_or ms n d ≡ get_or old n d = λ d. so.low n d l in
-      let now_is : (d : Worker J W) → now ≡ get_or old n d = λ d. same_at ms n m d inside ∙ was d in
+      let now_is : (d : Worker J W) → now ≡ get_or old n d = λ d. get_or_default ms n m d inside ∙ was d in
       record {
         count = length-set ms n m ∙ so.count;
         rests = map-set_same rest_of ms n m m (λ i. (id i, number i, own i, halted i, refused i)) ∙ so.rests;
         front = λ k x d b. ap victim_frame (sym (ap (λ xs. get_or xs k x) is ∙ get_or-append rest' (r ∷ []) x k b)) ∙ so.front k x d (omega arith);
         inside = omega (arith, so.inside);
         low = λ k d b. let other : k ≢ n = λ e. absurd (omega arith) in get_or-set_other ms n k m d other ∙ so.low k d (omega arith);
-        high = λ k d from b. elim (equal_or n k) [
+        high = λ k d from b. elim (cases_eq k n) [
           | inl e ↦ subst (λ j. TookBack (get_or old j d) (get_or (set ms n m) j d)) (sym e)
               (subst (TookBack (get_or old n d)) (sym (get_or-set_same ms n m d inside)) (subst (λ z. TookBack z m) (now_is d) (victims, next', left, more_parts)))
           | inr other ↦ subst (TookBack (get_or old k d)) (sym (get_or-set_other ms n k m d other)) (so.high k d (omega arith) b)
@@ -98,7 +99,7 @@ module _ {J W : Type 0} where
       → m.number ≡ now.number → m.own ≡ now.own → m.next ≡ now.next → m.left ≡ now.left → m.halted ≡ now.halted → m.refused ≡ now.refused → SoFar old row (set ms n m) rest'
   one_back_at old ms row rest rest' r e m n at is so victims id tallies number own next' left halted refused =
       let inside : length rest' < length ms = let a = ap length is in let b = so.count in let c = so.inside in omega (arith, length-append rest' (r ∷ [])) in
-      let same : get_or ms n e ≡ get_or ms (length rest') m = ap (λ k. get_or ms k e) (sym at) ∙ same_at ms (length rest') e m inside in
+      let same : get_or ms n e ≡ get_or ms (length rest') m = ap (λ k. get_or ms k e) (sym at) ∙ get_or_default ms (length rest') e m inside in
       subst (λ k. SoFar old row (set ms k m) rest') at (one_back old ms row rest rest' r m is so
       (victims ∙ ap (λ (x : Worker J W). x.thief.victims) same) (id ∙ ap id_of same) (tallies ∙ ap (λ (x : Worker J W). joined (own_tally x.thief.own) (victim_tally r)) same)
       (number ∙ ap (λ (x : Worker J W). x.number) same) (own ∙ ap (λ (x : Worker J W). x.own) same) (next' ∙ ap (λ (x : Worker J W). x.next) same)
@@ -157,7 +158,7 @@ module _ {J W : Type 0} where
       let rests = ab.rests ∙ rest1 in
       let there : (k : ℕ) (d : Worker J W) → k < length ms → (k ≢ w) → get_or ms1 k d ≡ get_or ms k d = λ k d b n. get_or-set_other ms w k m d n in
       let here : (d : Worker J W) → get_or ms1 w d ≡ m = λ d. get_or-set_same ms w m d inside in
-      let now_is : (d : Worker J W) → now ≡ get_or ms w d = λ d. same_at ms w m d inside in
+      let now_is : (d : Worker J W) → now ≡ get_or ms w d = λ d. get_or_default ms w m d inside in
       record {
         count = len;
         few = so.few;
@@ -170,7 +171,7 @@ module _ {J W : Type 0} where
             let o = ab.others k d k1 in
             let was = so.kept k d b in
             let f = ap (λ (x : Id × ℕ × W × Bool × Bool). x.4) (at_same rest_of ms2 ms k d d k2 rests) in
-            elim (equal_or w k) [
+            elim (cases_eq k w) [
               | inl e ↦
                   let hm = ap (λ (x : Worker J W). x.next) (ap (λ j. get_or ms1 j d) e ∙ here d) ∙ (next' ∙ (ap (λ (x : Worker J W). x.next) (now_is d) ∙ ap (λ j. (get_or ms j d).next) (sym e))) in
                   let lm = ap (λ (x : Worker J W). x.left) (ap (λ j. get_or ms1 j d) e ∙ here d) ∙ (left ∙ (ap (λ (x : Worker J W). x.left) (now_is d) ∙ ap (λ j. (get_or ms j d).left) (sym e))) in
@@ -183,7 +184,7 @@ module _ {J W : Type 0} where
             let km : k < length ms = omega (arith, so.count) in
             let o = ab.others k d k1 in
             let was = so.parts k d b in
-            elim (equal_or w k) [
+            elim (cases_eq k w) [
               | inl e ↦ let same = ap parts_of (ap (λ j. get_or ms1 j d) e ∙ here d) ∙ (ap (λ (t : OwnDeque J). (own_tally t).parts) own_thief ∙ (ap parts_of (now_is d) ∙ ap (λ j. parts_of (get_or ms j d)) (sym e))) in omega (arith, o.3, was, same)
               | inr n ↦ let same = ap parts_of (there k d km n) in omega (arith, o.3, was, same)
             ];
@@ -196,7 +197,7 @@ module _ {J W : Type 0} where
             let k1 : k < length ms1 = omega (arith, so.count, len1) in
             let km : k < length ms = omega (arith, so.count) in
             let o = ap (λ (v : Vec (Victim J) Global). v.items) (ab.others k d k1).0 in
-            elim (equal_or w k) [
+            elim (cases_eq k w) [
               | inl e ↦ o ∙ (ap (λ (x : Worker J W). x.thief.victims.items) (ap (λ j. get_or ms1 j d) e ∙ here d) ∙ none)
               | inr n ↦ o ∙ (ap (λ (x : Worker J W). x.thief.victims.items) (there k d km n) ∙ so.gone k d (omega arith) b)
             ];
@@ -230,7 +231,7 @@ module _ {J W : Type 0} where
       → row ≡ now.thief.victims.items → Absorbs (set ms w m) row ms2 → GatherSoFar old ms2 (w + 1)
   row_back_at old ms ms2 w e m row l so none own_thief number own next' left halted refused is ab =
       let b : w < length old = let c = so.count in omega arith in
-      let same : get_or ms w e ≡ get_or ms w m = same_at ms w e m l in
+      let same : get_or ms w e ≡ get_or ms w m = get_or_default ms w e m l in
       let len : length ms2 ≡ length old = sym (length-map ms2 rest_of) ∙ (ap length ab.rests ∙ (length-map (set ms w m) rest_of ∙ (length-set ms w m ∙ so.count))) in
       row_back old ms ms2 w m b len so none (own_thief ∙ ap (λ (x : Worker J W). x.thief.own) same) (number ∙ ap (λ (x : Worker J W). x.number) same) (own ∙ ap (λ (x : Worker J W). x.own) same)
       (next' ∙ ap (λ (x : Worker J W). x.next) same) (left ∙ ap (λ (x : Worker J W). x.left) same) (halted ∙ ap (λ (x : Worker J W). x.halted) same) (refused ∙ ap (λ (x : Worker J W). x.refused) same)

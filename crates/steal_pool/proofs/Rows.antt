@@ -1,6 +1,8 @@
 -- The passes of the workers are made one after another.
 use Rattle.std.proofs.Common.{◌≡◌, ◌≢◌, ℕ, ◌+◌, ◌-◌, ◌<◌, ◌≤◌, List, [], ◌∷◌, ◌++◌, length, set, get_or, map, take, All, Vec, Global, inl, inr, sym, refl, ap, ◌∙◌, subst, arith, append_assoc, length-append}
-use Rattle.std.proofs.lemmas.List.{get_or-set_same, get_or-set_other, get_or-map, map_more, map-append, length-set, append-nil}
+use Rattle.std.proofs.lemmas.Bool.{cases_eq}
+use Rattle.std.proofs.lemmas.List.Elements.{All-tail}
+use Rattle.std.proofs.lemmas.List.{get_or-set_same, get_or-set_other, get_or-map, map_more, map-append, length-set, append-nil, get_or_default}
 use Rattle.std.proofs.Math.Seq.{map-set_same}
 use Rattle.steal_pool.specs.declared.deque.OwnDeque.{OwnDeque}
 use Rattle.steal_pool.specs.declared.deque.Victim.{Victim}
@@ -8,7 +10,7 @@ use Rattle.steal_pool.specs.declared.thief.Thief.{Thief}
 use Rattle.steal_pool.specs.Balance.{tally, cut_off}
 use Rattle.steal_pool.specs.Deques.{own_tally, own_id, victim_tally, victim_id}
 use Rattle.steal_pool.specs.Thieves.{Id, IsRow, HasMade, AreNew}
-use Rattle.steal_pool.proofs.Lists.{All-snoc, All-init, All-last, All-tail, equal_or, same_at}
+use Rattle.steal_pool.proofs.Lists.{All-snoc, All-init, All-last}
 
 module _ {J : Type 0} where
   -- the passes to the first k deques were made
@@ -41,7 +43,7 @@ module _ {J : Type 0} where
       let there : own_id (get_or owns k o) ≡ own_id (get_or old k o) = sym (get_or-map own_id owns k o e l) ∙ (ap (λ xs. get_or xs k e) so.ids ∙ get_or-map own_id old k o e inside) in
       record {
         ids = map-set_same own_id owns k o o id ∙ so.ids;
-        done = λ i d below. elim (equal_or k i) [
+        done = λ i d below. elim (cases_eq i k) [
           | inl s ↦ subst (λ j. HasMade (made + 1) (get_or (set owns k o) j d)) (sym s) (subst (HasMade (made + 1)) (sym (get_or-set_same owns k o d l)) now)
           | inr n ↦ subst (HasMade (made + 1)) (sym (get_or-set_other owns k i o d n)) (so.done i d (omega arith))
         ];
@@ -56,7 +58,7 @@ module _ {J : Type 0} where
       → e ≡ get_or owns k e → own_id o ≡ own_id e → own_tally o ≡ cut_off (own_tally e) → o.found_empty ≡ e.found_empty → victim_id r ≡ own_id e → victim_tally r ≡ tally 1 [] [] → r.found_empty ≡ 0
       → RowSoFar made old (set owns k o) (k + 1) (row ++ r ∷ [])
   one_more_at made old owns k row e o r l len so is id tallies found_empty rid rhand rfound =
-      let at : e ≡ get_or owns k o = is ∙ same_at owns k e o l in
+      let at : e ≡ get_or owns k o = is ∙ get_or_default owns k e o l in
       one_more made old owns k row o r l len so (id ∙ ap own_id at) (tallies ∙ ap (λ x. cut_off (own_tally x)) at) (found_empty ∙ ap (λ (x : OwnDeque J). x.found_empty) at) (rid ∙ ap own_id at) rhand rfound
 
   pub whole_row : (made : ℕ) (old owns : List (OwnDeque J)) (k : ℕ) (row : List (Victim J)) → length owns ≤ k → length owns ≡ length old → take k old ≡ old → RowSoFar made old owns k row

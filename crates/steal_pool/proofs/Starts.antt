@@ -1,5 +1,6 @@
 -- How a run starts.
 use Rattle.std.proofs.Common.{◌≡◌, ℕ, zero, suc, ◌<◌, Bool, true, false, List, [], ◌∷◌, length, set, get_or, map, All, Vec, Global, inl, sym, refl, ap, ◌∙◌, subst, arith}
+use Rattle.std.proofs.lemmas.List.Folds.{list_any_none}
 use Rattle.std.specs.Option.{option_to_list}
 use Rattle.std.proofs.lemmas.List.{get_or-map, length-set, length-map}
 use Rattle.std.proofs.Math.Seq.{map-set_same}
@@ -14,7 +15,7 @@ use Rattle.steal_pool.specs.Turns.{Turn, Chain, StopsAtHalt, turned_weight, give
 use Rattle.steal_pool.specs.Workers.{held_weight, LeavesOnlyIfStopped}
 use Rattle.steal_pool.specs.AllWorkers.{id_of, AllWorked, AreNewWorkers, AreStarted, HaveAllPasses}
 use Rattle.steal_pool.proofs.Rule.{weigh-append}
-use Rattle.steal_pool.proofs.Lists.{weigh-set, map_map, at_same, none_any, weigh_none, map_pointwise}
+use Rattle.steal_pool.proofs.Lists.{weigh-set, map_map, at_same, weigh_none, map_pointwise}
 use Rattle.steal_pool.proofs.Gathering.{mark_of}
 use Rattle.steal_pool.proofs.Accounts.{Account}
 
@@ -130,7 +131,7 @@ module _ {J W : Type 0} where
             subst (λ ts. Chain (turned i) (get_or owns i o) ts (get_or ms i d).own) (sym (get_or-map none ms i d e l))
             (ap (λ os. get_or os i o) (sym values) ∙ get_or-map (λ (x : Worker J W). x.own) ms i d o l);
         stops = λ i e d l. subst (λ ts. StopsAtHalt false ts (get_or ms i d).halted) (sym (get_or-map none ms i d e l)) (start.free i d l).1;
-        halted = λ e. absurd (true_or_false _ e (none_any (λ (x : Worker J W). x.halted) ms (λ k d l. (start.free k d l).1)));
+        halted = λ e. absurd (true_or_false _ e (list_any_none (λ (x : Worker J W). x.halted) ms (λ k d l. (start.free k d l).1)));
         balance = λ h.
             let given = weigh_none (given_weight h) (map none ms) (λ k d l. ap (given_weight h) (nil_at ms k d l)) in
             let turned' = weigh_none (turned_weight h) (map none ms) (λ k d l. ap (turned_weight h) (nil_at ms k d l)) in

@@ -1,8 +1,8 @@
 use Rattle.std.proofs.Common.{◌≡◌, [], ◌∷◌, length, refl, sym, ap, ◌∙◌, subst, arith, length-append}
+use Rattle.std.proofs.lemmas.List.{nil_from_length}
 use Rattle.steal_pool.specs.Deques.{victim_id}
 use Rattle.steal_pool.specs.AllWorkers.{id_of}
 use Rattle.std.proofs.Common.{get_or}
-use Rattle.steal_pool.proofs.Lists.{nil_of}
 use Rattle.steal_pool.proofs.Gathering.{starts, to_its_place, one_back_at, all_back}
 use Rattle.steal_pool.proofs.gather.absorb_row.Goals as goal
 
@@ -31,4 +31,4 @@ loop-victim-preserved g c =
     refl c.absorb.ensures.same.0 c.absorb.ensures.rule refl refl refl refl refl refl
 
 pub returns : goal.returns
-returns g c = all_back c.args.workers.now c.loop-victim.workers c.args.row.items c.loop-victim.rest.items (nil_of c.loop-victim.rest.items (sym c.loop-victim.rest.ok.0 ∙ c.in_default.ensures.cases.0)) c.loop-victim.invariant
+returns g c = all_back c.args.workers.now c.loop-victim.workers c.args.row.items c.loop-victim.rest.items (nil_from_length c.loop-victim.rest.items (sym c.loop-victim.rest.ok.0 ∙ c.in_default.ensures.cases.0)) c.loop-victim.invariant

@@ -1,8 +1,7 @@
 use Rattle.std.proofs.Common.{[], ◌∷◌, ◌++◌, length, map, sym, ap, ◌∙◌, arith, append_assoc}
-use Rattle.std.proofs.lemmas.List.{append-nil}
+use Rattle.std.proofs.lemmas.List.{append-nil, nil_from_length}
 use Rattle.std.specs.Vec.Iter.{into_iter_items}
 use Rattle.steal_pool.specs.declared.worker.Worker.{Worker}
-use Rattle.steal_pool.proofs.Lists.{nil_of}
 use Rattle.steal_pool.proofs.gather.return_owns.Goals as goal
 
 pub loop-worker-init : goal.loop-worker-init
@@ -34,5 +33,5 @@ pub returns : goal.returns
 returns g c =
     let f : Worker g.row.J.Denot g.row.W.Denot → g.row.W.Denot = λ m. m.own in
     let owns = c.loop-worker.owns.items in
-    let none = nil_of (into_iter_items c.loop-worker.rest) (sym c.loop-worker.rest.rest.ok.0 ∙ c.in_default.ensures.cases.0) in
+    let none = nil_from_length (into_iter_items c.loop-worker.rest) (sym c.loop-worker.rest.rest.ok.0 ∙ c.in_default.ensures.cases.0) in
     sym (append-nil owns) ∙ (ap (λ r. owns ++ map f r) (sym none) ∙ c.loop-worker.invariant.done)

@@ -1,6 +1,6 @@
 use Rattle.std.proofs.Common.{◌≡◌, [], ◌∷◌, ◌++◌, length, None, false, refl, sym, ap, subst, arith, length-append}
+use Rattle.std.proofs.lemmas.List.{nil_from_length}
 use Rattle.steal_pool.specs.declared.worker.Worker.{Worker}
-use Rattle.steal_pool.proofs.Lists.{nil_of}
 use Rattle.steal_pool.proofs.Enrolling.{Enrolled, none_enrolled, one_enrolled, enrolled_counts, all_enrolled}
 use Rattle.steal_pool.proofs.start.new_workers.Goals as goal
 
@@ -64,7 +64,7 @@ returns g c =
     let end = c.loop-number-test.false in
     let few = c.requires.1 in
     let some = c.requires.0 in
-    let none = nil_of c.loop-number.owns.items (omega arith) in
-    let none' = nil_of c.loop-number.rest.items (omega arith) in
+    let none = nil_from_length c.loop-number.owns.items (omega arith) in
+    let none' = nil_from_length c.loop-number.rest.items (omega arith) in
     let spare = i.spare in
     (all_enrolled owns0 thieves0 ms c.loop-number.owns.items c.loop-number.rest.items none none' (omega arith) (omega arith) c.in_ok-rest.ensures.1 i.enrolled, none, omega arith)

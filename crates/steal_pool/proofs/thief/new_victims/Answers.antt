@@ -1,7 +1,6 @@
 use Rattle.std.proofs.Common.{◌<◌, ◌≤◌, ◌+◌, length, get_or, set, refl, sym, ap, ◌∙◌, subst, arith}
-use Rattle.std.proofs.lemmas.List.{length-set, take_all}
+use Rattle.std.proofs.lemmas.List.{length-set, take_all, get_or_default}
 use Rattle.steal_pool.specs.declared.tally.Tally.{Tally}
-use Rattle.steal_pool.proofs.Lists.{same_at}
 use Rattle.steal_pool.proofs.Rows.{RowSoFar, none_yet, one_more_at, whole_row}
 use Rattle.steal_pool.proofs.thief.new_victims.Goals as goal
 
@@ -30,7 +29,7 @@ loop-k-preserved g c =
     record {
       len = length-set owns k o ∙ c.loop-k.invariant.len;
       so = subst (λ row. RowSoFar c.args.made c.args.owns.now (set owns k o) (k + 1) row) (sym c.in_ok-push.ensures.items)
-          (one_more_at c.args.made c.args.owns.now owns k c.loop-k.row.items e o r l c.loop-k.invariant.len c.loop-k.invariant.so (same_at owns k c.index-owns-k.result e l)
+          (one_more_at c.args.made c.args.owns.now owns k c.loop-k.row.items e o r l c.loop-k.invariant.len c.loop-k.invariant.so (get_or_default owns k c.index-owns-k.result e l)
           c.victim.ensures.same.0 f.0 c.victim.ensures.same.1 f.1 f.2 f.3);
     }
 

@@ -1,11 +1,11 @@
 use Rattle.std.proofs.Common.{◌≡◌, ◌≤◌, ◌+◌, [], ◌∷◌, ◌++◌, length, map, All, Vec, Global, refl, sym, ap, ◌∙◌, subst, arith, length-append}
-use Rattle.std.proofs.lemmas.List.{length-map}
+use Rattle.std.proofs.lemmas.List.{length-map, nil_from_length}
 use Rattle.std.specs.Vec.Iter.{into_iter_items}
 use Rattle.steal_pool.specs.declared.deque.Victim.{Victim}
 use Rattle.steal_pool.specs.declared.thief.Thief.{Thief}
 use Rattle.steal_pool.specs.Deques.{own_id}
 use Rattle.steal_pool.specs.Thieves.{IsRow, HasMade}
-use Rattle.steal_pool.proofs.Lists.{nil_of, slice_back}
+use Rattle.steal_pool.proofs.Lists.{slice_back}
 use Rattle.steal_pool.proofs.Rows.{Making, rows_more, none_made, made_more, all_made}
 use Rattle.steal_pool.proofs.thief.thieves.Goals as goal
 
@@ -80,5 +80,5 @@ loop-own-preserved g c =
 
 pub returns : goal.returns
 returns g c =
-    let none = nil_of (into_iter_items c.loop-own.rest) (sym c.loop-own.rest.rest.ok.0 ∙ c.in_default.ensures.cases.0) in
+    let none = nil_from_length (into_iter_items c.loop-own.rest) (sym c.loop-own.rest.rest.ok.0 ∙ c.in_default.ensures.cases.0) in
     all_made c.args.workers c.loop-own.invariant.ids c.loop-own.all.items (into_iter_items c.loop-own.rest) c.loop-own.rows.items none c.loop-own.invariant.making
