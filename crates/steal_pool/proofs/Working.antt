@@ -127,6 +127,14 @@ module _ {J W : Type 0} where
       balance = λ h. omega (arith, p.balance h, q.balance h, weigh-append (λ (t : Turn J). h t.job) p.turns q.turns, weigh-append (λ (t : Turn J). weigh h t.more) p.turns q.turns);
     }
 
+    -- no turn was done
+    pub no_turn : (m : Worker J W) → Worked turned m [] m []
+    no_turn m = from_moved m m [] [] (still m [])
+
+    -- a job was found, and then turned
+    pub one_more : (a b c d : Worker J W) (job : J) → Worked turned a [] b [] → Moved b [] c (job ∷ []) → Worked turned c (job ∷ []) d [] → Worked turned a [] d []
+    one_more a b c d job before found done = worked_then a b d [] [] [] before (worked_then b c d [] (job ∷ []) [] (from_moved b c [] (job ∷ []) found) done)
+
     pub one_turn : (m m2 : Worker J W) (job : J) (more went : List J) (halt : Bool) → turned m.number m.own job more halt m2.own → m2.thief ≡ m.thief → m2.number ≡ m.number
         → m.halted ≡ false → m2.halted ≡ halt → ((h : J → ℕ) → weigh h more + held_weight h m ≡ weigh h went + held_weight h m2) → Worked turned m (job ∷ []) m2 went
     one_turn m m2 job more went halt done thief number fresh halted balance = record {

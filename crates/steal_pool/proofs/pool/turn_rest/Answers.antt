@@ -2,7 +2,7 @@ use Rattle.std.proofs.Common.{◌<◌, ◌⊎◌, [], length, refl, sym, ◌∙�
 use Rattle.std.proofs.lemmas.List.{length-set}
 use Rattle.steal_pool.specs.declared.worker.Worker.{Worker}
 use Rattle.steal_pool.specs.Workers.{Worked, LeavesOnlyIfStopped, IsStopped, HasNothingLeft}
-use Rattle.steal_pool.proofs.Working.{still, from_moved}
+use Rattle.steal_pool.proofs.Working.{no_turn}
 use Rattle.steal_pool.proofs.Enrolling.{done_more, rest_more, done_or_same}
 use Rattle.steal_pool.proofs.Accounts.{over_of}
 use Rattle.steal_pool.proofs.pool.turn_rest.Goals as goal
@@ -15,7 +15,7 @@ returns-then-has_stopped-clause-worked g c =
     let inv = c.loop-k.invariant in
     let turned = g.B.Body.turned c.args.body.now in (
       inv.count,
-      done_or_same (λ a b. Worked turned a [] b []) c.args.workers.now c.loop-k.workers c.loop-k.k (λ m. from_moved turned m m [] [] (still m [])) inv.rest (λ i d b l. (inv.done i d b l).0),
+      done_or_same (λ a b. Worked turned a [] b []) c.args.workers.now c.loop-k.workers c.loop-k.k (no_turn turned) inv.rest (λ i d b l. (inv.done i d b l).0),
     )
 
 pub turn_own-requires : goal.turn_own-requires
