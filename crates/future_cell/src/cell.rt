@@ -1,5 +1,5 @@
 //! A value that is put once, and those who wait for it.
-ghost use Rattle.std.specs.Prelude.{◌≡◌, [], ◌∷◌, ◌++◌, IfErr, Some, None, MatchResult};
+ghost use Rattle.std.specs.Prelude.{◌≡◌, [], ◌∷◌, ◌++◌, IfErr, OnOk, Some, None};
 ghost use Rattle.std.specs.Option.{option_copied};
 
 use fut_base::list::NoMemory;
@@ -64,7 +64,8 @@ impl<T: Drop, W: Drop> FutureCell<T, W> {
     /// One more waits, behind the others. `Err` hands the waiter back, for want of memory.
     pub fn wait(&mut self, waiter: W) -> Result<(), Back<W>>
         requires { self.old.value ≡ None }
-        ensures { MatchResult result (λ _. self.new ≡ record { value = None; waiters = self.old.waiters ++ waiter ∷ [] }) (λ back. (back.waiter ≡ waiter) × (self.new ≡ self.old)) }
+        ensures kept { OnOk result (self.new ≡ record { value = None; waiters = self.old.waiters ++ waiter ∷ [] }) }
+        ensures back { IfErr result (λ back. (back.waiter ≡ waiter) × (self.new ≡ self.old)) }
     {
         match self.waiters.reserve() {
             Ok(()) => {

@@ -18,7 +18,8 @@ module _ {J W : Type 0} where
 
   -- each worker did turns
   abbrev pub AllWorked : (ℕ → W → J → List J → Bool → W → Type 0) → List (Worker J W) → List (Worker J W) → Type 0
-  AllWorked turned ms ms' = (length ms' ≡ length ms) × ((i : ℕ) (d : Worker J W) → i < length ms → Worked turned (slice_index_or ms i d) [] (slice_index_or ms' i d) [])
+  AllWorked turned ms ms' =
+      (length ms' ≡ length ms) × ((i : ℕ) (d : Worker J W) → i < length ms → Worked turned (slice_index_or ms i d) [] (slice_index_or ms' i d) [])
 
   -- new workers with these values
   pub record AreNewWorkers (owns : List W) (ms : List (Worker J W)) : Type 0 where
@@ -46,7 +47,8 @@ module _ {J W : Type 0} where
   -- all passes came back
   pub record AreGathered (ms ms' : List (Worker J W)) : Type 0 where
     pub selves : map self_of ms' ≡ map self_of ms
-    pub pushed : (k : ℕ) (d : Worker J W) → k < length ms → ((slice_index_or ms' k d).left ≡ (slice_index_or ms k d).left) × ((slice_index_or ms' k d).refused ≡ (slice_index_or ms k d).refused)
+    pub pushed : (k : ℕ) (d : Worker J W) → k < length ms
+        → ((slice_index_or ms' k d).left ≡ (slice_index_or ms k d).left) × ((slice_index_or ms' k d).refused ≡ (slice_index_or ms k d).refused)
     pub whole : All IsWhole ms'
     pub held : (h : J → ℕ) → weigh (held_weight h) ms' ≡ weigh (held_weight h) ms
     pub put : (h : J → ℕ) → weigh (λ m. put_weight h m.thief) ms' ≡ weigh (λ m. put_weight h m.thief) ms
@@ -65,8 +67,10 @@ module _ {J W : Type 0} where
     pub rests : map rest_of ms' ≡ map rest_of ms
     pub others : (k : ℕ) (d : Worker J W) → k < length ms → let old = slice_index_or ms k d in let new = slice_index_or ms' k d in
         (new.thief.victims ≡ old.thief.victims) × (new.next ≡ old.next) × (new.left ≡ old.left) × (parts_of new ≡ parts_of old + 1)
-    pub put : (h : J → ℕ) → weigh (λ m. put_weight h m.thief) ms' ≡ weigh (λ m. put_weight h m.thief) ms + weigh (λ r. weigh h (victim_tally r).put) row
-    pub taken : (h : J → ℕ) → weigh (λ m. taken_weight h m.thief) ms' ≡ weigh (λ m. taken_weight h m.thief) ms + weigh (λ r. weigh h (victim_tally r).taken) row
+    pub put : (h : J → ℕ) → weigh (λ m. put_weight h m.thief) ms'
+        ≡ weigh (λ m. put_weight h m.thief) ms + weigh (λ r. weigh h (victim_tally r).put) row
+    pub taken : (h : J → ℕ) → weigh (λ m. taken_weight h m.thief) ms'
+        ≡ weigh (λ m. taken_weight h m.thief) ms + weigh (λ r. weigh h (victim_tally r).taken) row
 
   -- no job was turned; the jobs that came in and were there are those that went out and are there
   pub record AllMoved (ms : List (Worker J W)) (came : List J) (ms' : List (Worker J W)) (went : List J) : Type 0 where
@@ -77,7 +81,8 @@ module _ {J W : Type 0} where
 
   -- turns were done, all passes came back, and then more turns were done
   abbrev pub RanAll : (ℕ → W → J → List J → Bool → W → Type 0) → List (Worker J W) → List (Worker J W) → Type 0
-  RanAll turned ms ms' = (ms1 : List (Worker J W)) × (ms2 : List (Worker J W)) × AllWorked turned ms ms1 × AreGathered ms1 ms2 × AllWorked turned ms2 ms'
+  RanAll turned ms ms' =
+      (ms1 : List (Worker J W)) × (ms2 : List (Worker J W)) × AllWorked turned ms ms1 × AreGathered ms1 ms2 × AllWorked turned ms2 ms'
 
   -- a worker said halt, or a push of it was refused
   abbrev pub SomeStopped : List (Worker J W) → Type 0
@@ -96,3 +101,7 @@ module _ {J W : Type 0} where
     pub put : (h : J → ℕ) → weigh (λ m. put_weight h m.thief) ms ≡ h first
     pub taken : (h : J → ℕ) → weigh (λ m. taken_weight h m.thief) ms ≡ 0
     pub held : (h : J → ℕ) → weigh (held_weight h) ms ≡ 0
+
+  -- these jobs were taken out of the workers, who have none left; there were some only where a worker said halt
+  abbrev pub AreLeft : List (Worker J W) → List (Worker J W) → List J → Type 0
+  AreLeft ms ms' jobs = AllMoved ms [] ms' jobs × All HasNothingLeft ms' × ((jobs ≡ []) ⊎ (list_any (λ m. m.halted) ms ≡ true))

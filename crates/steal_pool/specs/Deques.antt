@@ -1,12 +1,12 @@
--- A worker's ways to the deques, and what a take did.
-use Rattle.std.specs.Prelude.{◌≡◌, ℕ, ◌+◌, ◌-◌, ◌^◌, min, [], ◌∷◌, Option, Some, None}
+-- What is known of a worker's deque and of its victims', and what a push, a pop and a steal did.
+use Rattle.std.specs.Prelude.{◌≡◌, ℕ, ◌+◌, ◌-◌, ◌^◌, min, [], ◌∷◌, Option, Some, None, Result, Ok, Err}
 use Rattle.std.specs.declared.alloc.Global.{Global}
 use Rattle.atomic_blocks.specs.Lent.{RowsId}
 use Rattle.crossbeam_deque.specs.Handles.{view, worker_deque, stealer_deque, worker_view}
 use Rattle.steal_pool.specs.declared.tally.Tally.{Tally}
 use Rattle.steal_pool.specs.declared.deque.OwnDeque.{OwnDeque}
 use Rattle.steal_pool.specs.declared.deque.Victim.{Victim}
-use Rattle.steal_pool.specs.Balance.{with_taken, WasEmpty}
+use Rattle.steal_pool.specs.Balance.{tally, with_put, with_taken, cut_off, WasEmpty}
 
 -- a count that stands at its greatest
 abbrev pub one_more : ℕ → ℕ
@@ -27,7 +27,17 @@ module _ {J : Type 0} where
   abbrev pub victim_id : Victim J → RowsId × Global
   victim_id r = stealer_deque r.stealer
 
-  -- a job was taken, or the deque was found_empty empty at a moment of the call, and that was counted
+  -- a job was put last, or handed back
+  abbrev pub PutLast : Tally J → J → Tally J → Result (Unit {0}) J → Type 0
+  PutLast old job new (Ok done) = new ≡ with_put old (job ∷ [])
+  PutLast old job new (Err back) = (back ≡ job) × (new ≡ old)
+
+  -- a new token for this deque, which has put and taken nothing, with one of the owner's parts
+  abbrev pub SplitsOff : OwnDeque J → OwnDeque J → Victim J → Type 0
+  SplitsOff old new victim =
+      (own_tally new ≡ cut_off (own_tally old)) × (victim_id victim ≡ own_id old) × (victim_tally victim ≡ tally 1 [] []) × (victim.found_empty ≡ 0)
+
+  -- a job was taken, or the deque was found empty at a moment of the call, and that was counted
   abbrev pub TookFirst : Tally J → ℕ → Tally J → ℕ → Option J → Type 0
   TookFirst old found_empty new found_empty' None = (new ≡ old) × (found_empty' ≡ one_more found_empty) × WasEmpty old
   TookFirst old found_empty new found_empty' (Some x) = (new ≡ with_taken old (x ∷ [])) × (found_empty' ≡ found_empty)

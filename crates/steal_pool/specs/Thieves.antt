@@ -33,11 +33,12 @@ module _ {J : Type 0} where
     pub put : (h : J → ℕ) → put_weight h t' ≡ put_weight h t + weigh h puts
     pub taken : (h : J → ℕ) → taken_weight h t' ≡ taken_weight h t + weigh h takes
 
-  -- the first job of that deque was taken by the pass to it, or the deque was found_empty empty
+  -- the first job of that deque was taken by the pass to it, or the deque was found empty
   abbrev pub StoleFrom : Thief J → ℕ → Thief J → Option J → Type 0
   StoleFrom t from t' result =
       (d : Victim J) → let old = slice_index_or t.victims.items from d in let new = slice_index_or t'.victims.items from d in
-      (t'.victims.items ≡ slice_set t.victims.items from new) × (victim_id new ≡ victim_id old) × TookFirst (victim_tally old) old.found_empty (victim_tally new) new.found_empty result
+      (t'.victims.items ≡ slice_set t.victims.items from new) × (victim_id new ≡ victim_id old)
+      × TookFirst (victim_tally old) old.found_empty (victim_tally new) new.found_empty result
 
   -- so many passes to this deque were made, none of which has put or taken anything
   abbrev pub HasMade : ℕ → OwnDeque J → Type 0

@@ -1,4 +1,9 @@
-//! A worker's ways to the deques: the end of its own, and a pass to another's.
+//! The deques as a worker sees them: its own, and those of its victims.
+//!
+//! Each is a deque of `crossbeam_deque` with a permission token, which knows what its holder has put in and taken out
+//! (`Tally`), and a count of the times at which the deque was found empty. The deque's view of its tokens stays as it is
+//! where nothing is taken, so the count stands beside the token; nothing but `pop` and `steal` here raises it, and they do
+//! where the deque told that it was empty at a moment of the call.
 ghost use Rattle.std.specs.Prelude.{◌≡◌, ◌<◌};
 ghost use Rattle.crossbeam_deque.specs.Handles.{view, IsPassOf, worker_view, worker_flavor, stealer_deque, stealer_flavor};
 
@@ -12,7 +17,7 @@ use std::sync::Wait;
 // The slots of a deque at first.
 const CAPACITY: usize = 64;
 
-/// The end of a worker's own deque, and how often it was found_empty empty there.
+/// A worker's own deque, and how often it was found empty there.
 #[derive(Drop)]
 pub struct OwnDeque<J> {
     pub(crate) deque: Worker<J, Global, Tally<J>, Balance>,
@@ -21,7 +26,7 @@ pub struct OwnDeque<J> {
     ghost part: { 0 < (worker_view deque).parts },
 }
 
-/// A pass to a deque, and how often the deque was found_empty empty there.
+/// A deque that may be stolen from, and how often the deque was found empty there.
 #[derive(Drop)]
 pub struct Victim<J> {
     pub(crate) stealer: Stealer<J, Global, Tally<J>, Balance>,
@@ -64,15 +69,14 @@ impl<J: Drop> OwnDeque<J> {
 }
 
 impl<J> OwnDeque<J> {
-    ghost use Rattle.std.specs.Prelude.{[], ◌∷◌, MatchResult, IfOk};
-    ghost use Rattle.steal_pool.specs.Balance.{tally, with_put, cut_off};
-    ghost use Rattle.steal_pool.specs.Deques.{own_tally, own_id, victim_tally, victim_id, TookFirst};
+    ghost use Rattle.std.specs.Prelude.{IfOk};
+    ghost use Rattle.steal_pool.specs.Deques.{own_tally, own_id, SplitsOff, PutLast, TookFirst};
 
     /// A new pass to this deque.
     pub(crate) fn victim(&mut self) -> Result<Victim<J>, NoMemory>
         requires { 1 < (own_tally self.old).parts }
         ensures same { (own_id self.new ≡ own_id self.old) × (self.new.found_empty ≡ self.old.found_empty) }
-        ensures rule { IfOk result (λ r. (own_tally self.new ≡ cut_off (own_tally self.old)) × (victim_id r ≡ own_id self.old) × (victim_tally r ≡ tally 1 [] []) × (r.found_empty ≡ 0)) }
+        ensures rule { IfOk result (SplitsOff self.old self.new) }
     {
         let stealer = self.deque.stealer()?;
         let pass = self.deque.another::<SplitOff>();
@@ -86,7 +90,7 @@ impl<J> OwnDeque<J> {
     /// Adds the job at the end.
     pub fn push(&mut self, job: J) -> Result<(), J>
         ensures same { (own_id self.new ≡ own_id self.old) × (self.new.found_empty ≡ self.old.found_empty) }
-        ensures rule { MatchResult result (λ _. own_tally self.new ≡ with_put (own_tally self.old) (job ∷ [])) (λ x. (x ≡ job) × (own_tally self.new ≡ own_tally self.old)) }
+        ensures rule { PutLast (own_tally self.old) job (own_tally self.new) result }
     {
         self.deque.push_as::<Puts>(job)
     }

@@ -3,7 +3,7 @@ ghost use Rattle.std.specs.Prelude.{◌≡◌, ◌⊎◌, ◌+◌, ◌-◌, ◌*
 ghost use Rattle.std.specs.List.{list_any};
 ghost use Rattle.std.specs.Option.{option_to_list};
 ghost use Rattle.steal_pool.specs.Workers.{Moved, HasNothingLeft};
-ghost use Rattle.steal_pool.specs.AllWorkers.{HaveAllPasses, AreGathered, Absorbs, IsReturned, AllMoved, IsWhole, IsOver, SomeStopped};
+ghost use Rattle.steal_pool.specs.AllWorkers.{HaveAllPasses, AreGathered, Absorbs, IsReturned, AllMoved, IsWhole, IsOver, AreLeft, SomeStopped};
 
 use crate::deque::Victim;
 use crate::worker::Worker;
@@ -42,7 +42,7 @@ pub(crate) fn left_jobs<J: Drop, W, R: Wait>(
     workers: &mut [Worker<J, W>],
 ) -> Result<Ready<J>, NoMemory>
     requires { IsOver workers.old }
-    ensures { IfOk result (λ jobs. AllMoved workers.old [] workers.new jobs.items × All HasNothingLeft workers.new × ((jobs.items ≡ []) ⊎ (list_any (λ m. m.halted) workers.old ≡ true))) }
+    ensures { IfOk result (λ jobs. AreLeft workers.old workers.new jobs.items) }
 {
     if has_refused(workers) {
         return Err(NoMemory);

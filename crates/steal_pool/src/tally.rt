@@ -1,9 +1,13 @@
-//! What a pass of a deque knows, and the rule that the deques keep: what was put is what was taken and what is there.
+//! What is known of a deque, and the rule that it keeps: what was put is what was taken and what is there.
+//!
+//! Each worker has a permission token (a pass) to each deque. Its tally is data that exists in proofs alone. A deque has 65
+//! parts: one for the token of each of up to 64 workers, and one at least for its owner. After a run all tokens come back to
+//! the owners. Whoever has all 65 parts and finds the deque empty knows that all that was put was taken.
 use crossbeam_deque::protocol::{Join, Outcome, Protocol, Split};
 use std::collections::LinkedList;
 
-/// What one pass has put into its deque and taken out of it, and how many of the 65 parts of the right to know the
-/// whole it has. No value of it is made.
+/// What the holder of a token has put into the deque and taken out of it, and how many of the 65 parts it has. No value of
+/// it is made.
 pub struct Tally<J> {
     pub parts: u64,
     pub put: LinkedList<J>,
@@ -24,7 +28,7 @@ impl<J> Protocol<J, Tally<J>> for Balance {
     ghost guest = { tally 0 [] [] };
 }
 
-/// A new pass with one part is cut off.
+/// A new token with one part is split off.
 pub struct SplitOff;
 
 impl<J> Split<Tally<J>> for SplitOff {
@@ -36,7 +40,7 @@ impl<J> Split<Tally<J>> for SplitOff {
     ghost right = { λ v. tally 1 [] [] };
 }
 
-/// What two passes know is put together.
+/// Two tokens become one.
 pub struct Merge;
 
 impl<J> Join<Tally<J>> for Merge {

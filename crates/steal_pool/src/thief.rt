@@ -1,8 +1,7 @@
 //! One worker's deque, with its passes to the deques of all workers.
-ghost use Rattle.std.specs.Prelude.{◌≡◌, ◌+◌, ◌-◌, ◌*◌, ◌<◌, ◌≤◌, [], ◌∷◌, length, map, All, IfOk, MatchResult};
+ghost use Rattle.std.specs.Prelude.{◌≡◌, ◌+◌, ◌-◌, ◌*◌, ◌<◌, ◌≤◌, [], ◌∷◌, length, map, All, IfOk};
 ghost use Rattle.std.specs.Option.{option_to_list};
-ghost use Rattle.steal_pool.specs.Balance.{tally, with_put};
-ghost use Rattle.steal_pool.specs.Deques.{own_tally, own_id, TookFirst};
+ghost use Rattle.steal_pool.specs.Deques.{own_tally, own_id, PutLast, TookFirst};
 ghost use Rattle.steal_pool.specs.Thieves.{StoleFrom, HasMade, IsRow, AreNew};
 
 use crate::deque::{OwnDeque, Victim};
@@ -31,7 +30,7 @@ impl<J> Thief<J> {
     pub fn push(&mut self, job: J) -> Result<(), J>
         ensures victims { self.new.victims ≡ self.old.victims }
         ensures same { (own_id self.new.own ≡ own_id self.old.own) × (self.new.own.found_empty ≡ self.old.own.found_empty) }
-        ensures rule { MatchResult result (λ _. own_tally self.new.own ≡ with_put (own_tally self.old.own) (job ∷ [])) (λ x. (x ≡ job) × (own_tally self.new.own ≡ own_tally self.old.own)) }
+        ensures rule { PutLast (own_tally self.old.own) job (own_tally self.new.own) result }
     {
         self.own.push(job)
     }
