@@ -1,4 +1,6 @@
 //! Calls by words over a source and a sink in memory.
+mod lengths;
+mod process;
 mod records;
 mod replays;
 mod runs;
