@@ -6,6 +6,7 @@ pub mod Memory
 pub mod Orders
 pub mod Ports
 pub mod Racing
+pub mod Ready
 pub mod Rows
 pub mod Sound
 pub mod Tables

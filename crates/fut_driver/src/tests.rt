@@ -1,4 +1,5 @@
 //! Calls by words over a source and a sink in memory.
+mod guide;
 mod lengths;
 mod process;
 mod records;

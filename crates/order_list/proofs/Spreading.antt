@@ -6,14 +6,14 @@ use Rattle.std.proofs.Math.ListN.{length-set}
 use Rattle.std.proofs.Math.Nat.{mul-le-mul_right, mul-div-le, le-div_iff_mul-le}
 use Rattle.order_list.specs.Ordered.{AllBelow, Rises, is_in, head_of, next_of, high_by}
 use Rattle.order_list.specs.Chain.{Linked, Keeps}
-use Rattle.order_list.specs.Labels.{is_between, base_of, gap_of, members, IsSparse, IsSpaced, IsSpread}
+use Rattle.order_list.specs.Labels.{is_between, base_of, gap_of, members, IsSparse, IsWindowOf, IsSpaced, IsSpread}
 use Rattle.order_list.specs.Spans.{Leads, put_before, Falls, IsFound, IsRoute, set_evenly}
 use Rattle.order_list.specs.declared.place.Window.{Window}
 use Rattle.order_list.proofs.Chains.{tested, eq_of, later_above, later_below}
 use Rattle.order_list.proofs.Inserting.{apart, in_rest, head_in, not_later}
 use Rattle.order_list.proofs.Powers.{gap_two, base_le, label_below}
 use Rattle.order_list.proofs.Spans.{is_in_range, below_append, put_before_below, rises_append, rises_join}
-use Rattle.order_list.proofs.Windows.{linked_from, leads_linked, members_are, fits}
+use Rattle.order_list.proofs.Sparse.{linked_from, leads_linked, members_are, found_is_window, found_segment, fits}
 
 -- the labels as far as they were set
 pub record IsSpreading (old : List ℕ) (nexts : List (Option ℕ)) (w : Window) (items rest : List ℕ) (labels : List ℕ) (k label : ℕ) (at : Option ℕ) : Type 0 where
@@ -283,14 +283,16 @@ module _ (labels : List ℕ) (nexts prevs : List (Option ℕ)) (order : List ℕ
     rises = rises';
   }
 
-  pub spread' : IsSpread labels order x labels'
-  spread' = record {
-    size = i;
-    least = f.least;
-    counted = even_length labels base gap items;
-    spaced = subst (λ (xs : List ℕ). IsSpaced labels' base (gap_of i (length xs)) 0 xs) (sym same_items) spaced;
-    others = λ y out. even_other labels base gap y items (subst (λ xs. is_in y xs ≡ false) same_items out);
-  }
+  pub spread' : IsSpread labels order x w labels'
+  spread' =
+      let window : IsWindowOf labels order x w = record { size = i; least = f.least; is = found_is_window labels nexts prevs order x w f; segment = found_segment labels nexts prevs order x w f } in
+      let spaced_in : IsSpaced labels' base gap 0 (members labels order x i) = subst (λ (xs : List ℕ). IsSpaced labels' base gap 0 xs) (sym same_items) spaced in
+      record {
+        window = window;
+        counted = even_length labels base gap items;
+        spaced = subst (λ (v : Window). IsSpaced labels' v.base v.gap 0 (members labels order x i)) (sym w_is) spaced_in;
+        others = λ y out. even_other labels base gap y items (subst (λ xs. is_in y xs ≡ false) same_items out);
+      }
 
   pub between' : slice_index labels' x + 2 ≤ high_by labels' (next_of x order)
   between' =

@@ -1,5 +1,5 @@
 -- Where a new item finds its label, and which labels a relabelling gives.
-use Rattle.std.specs.Prelude.{◌≡◌, ℕ, ◌+◌, ◌-◌, ◌*◌, ◌/◌, ◌%◌, ◌^◌, ◌<◌, ◌≤◌, nat_lt, Bool, false, not, ◌&&◌, if◌then◌else◌, List, [], ◌∷◌, ◌++◌, length, slice_index, unwrap_or}
+use Rattle.std.specs.Prelude.{◌≡◌, ◌≢◌, ℕ, ◌+◌, ◌-◌, ◌*◌, ◌/◌, ◌%◌, ◌^◌, ◌<◌, ◌≤◌, nat_lt, Bool, false, not, ◌&&◌, if◌then◌else◌, List, [], ◌∷◌, ◌++◌, Option, Some, None, length, slice_index, unwrap_or}
 use Rattle.std.specs.List.{filter}
 use Rattle.order_list.specs.declared.place.Window.{Window}
 use Rattle.order_list.specs.declared.place.Place.{Place}
@@ -51,32 +51,53 @@ window_at labels order x i =
     let items = members labels order x i in
     record { first = record { 0 = unwrap_or (head_of items) 0 }; items = length items; base = base_of i (slice_index labels x); gap = gap_of i (length items) }
 
--- what a relabelling at x takes: the least sparse window
+-- the items stand together in the list, with others behind and ahead of them
+pub record IsSegment (order items : List ℕ) : Type 0 where
+  pub behind : List ℕ
+  pub ahead : List ℕ
+  pub parts : order ≡ behind ++ (items ++ ahead)
+
+-- what a relabelling at x takes: the least sparse window, whose items stand together
 pub record IsWindowOf (labels order : List ℕ) (x : ℕ) (w : Window) : Type 0 where
   pub size : ℕ
   pub least : IsLeastSparse labels order x size
   pub is : w ≡ window_at labels order x size
+  pub segment : IsSegment order (members labels order x size)
 
 -- from the k-th item on, the items have the labels base + k * gap, base + (k + 1) * gap and so on
 abbrev pub IsSpaced : List ℕ → ℕ → ℕ → ℕ → List ℕ → Type 0
 IsSpaced labels base gap k [] = Unit {0}
 IsSpaced labels base gap k (x ∷ xs) = (slice_index labels x ≡ base + k * gap) × IsSpaced labels base gap (k + 1) xs
 
--- the labels after a relabelling at x: the items of the least sparse window are spread evenly over it, and the other
--- labels stay
-pub record IsSpread (labels order : List ℕ) (x : ℕ) (spread : List ℕ) : Type 0 where
-  pub size : ℕ
-  pub least : IsLeastSparse labels order x size
+-- the labels after a relabelling at x in this window: its items are spread evenly over it, and the other labels stay
+pub record IsSpread (labels order : List ℕ) (x : ℕ) (w : Window) (spread : List ℕ) : Type 0 where
+  pub window : IsWindowOf labels order x w
   pub counted : length spread ≡ length labels
-  pub spaced : let items = members labels order x size in IsSpaced spread (base_of size (slice_index labels x)) (gap_of size (length items)) 0 items
-  pub others : (y : ℕ) → is_in y (members labels order x size) ≡ false → slice_index spread y ≡ slice_index labels y
+  pub spaced : IsSpaced spread w.base w.gap 0 (members labels order x window.size)
+  pub others : (y : ℕ) → is_in y (members labels order x window.size) ≡ false → slice_index spread y ≡ slice_index labels y
+
+-- there is a label between that of x and the next one
+abbrev pub HasSpace : Ordered → ℕ → Type 0
+HasSpace l x = slice_index l.labels x + 2 ≤ high_of l x
+
+-- the labels after those of this window, if any, were made anew at x: of one exactly where there was no label between
+abbrev pub SpacedBy : Ordered → ℕ → List ℕ → Option Window → Type 0
+SpacedBy old x labels None = (place_of old x ≢ Relabel) × (labels ≡ old.labels)
+SpacedBy old x labels (Some w) = (place_of old x ≡ Relabel) × IsSpread old.labels old.order x w labels
+
+-- now there is a label between that of x and the next one
+pub record HasMadeSpace (old : Ordered) (x : ℕ) (w : Option Window) (new : Ordered) : Type 0 where
+  pub order_is : new.order ≡ old.order
+  pub room_is : new.room ≡ old.room
+  pub labels_are : SpacedBy old x new.labels w
+  pub space : HasSpace new x
 
 -- the labels after an item was put after x: those from before with the place's label, or those of a relabelling with
 -- one in the middle
 abbrev pub LabelsBy : Ordered → ℕ → List ℕ → Place → Type 0
 LabelsBy old x labels (Label l) = labels ≡ old.labels ++ l ∷ []
 LabelsBy old x labels Relabel =
-    (spread : List ℕ) × IsSpread old.labels old.order x spread
+    (w : Window) × (spread : List ℕ) × IsSpread old.labels old.order x w spread
     × (labels ≡ spread ++ middle_of (slice_index spread x) (high_by spread (next_of x old.order)) ∷ [])
 
 abbrev pub LabelsAfter : Ordered → ℕ → List ℕ → Type 0

@@ -22,6 +22,6 @@ mod window;
 pub use item::Item;
 pub use judge::{Judge, Moved, Sides};
 pub use list::{NoMemory, OrderList};
-pub use place::{Place, Window};
+pub use place::{Place, Window, Windows};
 pub use placer::Placer;
 pub use still::Still;

@@ -2,7 +2,7 @@
 ghost use Rattle.std.specs.Prelude.{◌≡◌, ℕ, ◌+◌, ◌^◌, ◌<◌, ◌≤◌, [], ◌∷◌, ◌++◌, length, IfOk, Some, slice_index, option_map, vec_len, vec_capacity};
 ghost use Rattle.order_list.specs.Ordered.{Ordered, put_after, stands_before, next_of, high_of, IsFresh, IsKept};
 ghost use Rattle.order_list.specs.Chain.{with_prev};
-ghost use Rattle.order_list.specs.Labels.{place_of, middle_of, IsWindowOf, IsSpread, LabelsAfter};
+ghost use Rattle.order_list.specs.Labels.{place_of, middle_of, IsWindowOf, IsSpread, HasSpace, HasMadeSpace, LabelsAfter};
 
 use crate::item::Item;
 use crate::place::{Place, Window};
@@ -114,7 +114,9 @@ impl OrderList {
     /// last.
     pub fn place_after(&self, x: Item) -> Place
         requires { x.0 < length self.now.order }
-        ensures { result ≡ place_of self.now x.0 }
+        ensures place { result ≡ place_of self.now x.0 }
+        // What every list keeps.
+        ensures kept { IsKept self.now }
     {
         let low = self.labels[x.0 as usize];
         let high = self.high_after(x);
@@ -138,6 +140,41 @@ impl OrderList {
         )
     }
 
+    /// Makes labels anew at x: the items of the least sparse window, which it tells, are spread evenly over it. Afterwards
+    /// there is a label between x and the next item. It takes no memory.
+    pub fn relabel(&mut self, x: Item) -> Window
+        requires { x.0 < length self.old.order }
+        ensures order { self.new.order ≡ self.old.order }
+        ensures room { self.new.room ≡ self.old.room }
+        ensures labels { IsSpread self.old.labels self.old.order x.0 result self.new.labels }
+        ensures space { HasSpace self.new x.0 }
+        // What every list keeps.
+        ensures was_kept { IsKept self.old }
+        ensures kept { IsKept self.new }
+    {
+        relabel(
+            self.labels.as_mut_slice(),
+            self.nexts.as_slice(),
+            self.prevs.as_slice(),
+            x.0,
+        )
+    }
+
+    /// Makes labels anew at x exactly where there is none between x and the next item, and tells the window; `None` where
+    /// nothing changed. It takes no memory.
+    pub fn make_space(&mut self, x: Item) -> Option<Window>
+        requires { x.0 < length self.old.order }
+        ensures space { HasMadeSpace self.old x.0 result self.new }
+        // What every list keeps.
+        ensures was_kept { IsKept self.old }
+        ensures kept { IsKept self.new }
+    {
+        match self.place_after(x) {
+            Place::Label(_) => None,
+            Place::Relabel => Some(self.relabel(x)),
+        }
+    }
+
     /// Puts a new item right after x. Where there is no label between, those of the least sparse window are made
     /// anew first. It takes no memory.
     pub fn insert_after(&mut self, x: Item) -> Item
@@ -151,14 +188,9 @@ impl OrderList {
         ensures was_kept { IsKept self.old }
         ensures kept { IsKept self.new }
     {
-        match self.place_after(x) {
-            Place::Label(label) => self.link(x, label),
-            Place::Relabel => {
-                self.relabel(x);
-                let label = self.middle(x);
-                self.link(x, label)
-            }
-        }
+        self.make_space(x);
+        let label = self.middle(x);
+        self.link(x, label)
     }
 
     // The label of the next item, or 2^62.
@@ -177,31 +209,13 @@ impl OrderList {
     // The label in the middle between an item and the next.
     fn middle(&self, x: Item) -> u64
         requires x_in { x.0 < length self.now.order }
-        requires gap { slice_index self.now.labels x.0 + 2 ≤ high_of self.now x.0 }
+        requires space { HasSpace self.now x.0 }
         ensures middle { result ≡ middle_of (slice_index self.now.labels x.0) (high_of self.now x.0) }
         ensures above { slice_index self.now.labels x.0 < result }
         ensures below { result < high_of self.now x.0 }
     {
         let low = self.labels[x.0 as usize];
         low + (self.high_after(x) - low) / 2
-    }
-
-    // Spreads the labels of the least sparse window at x.
-    fn relabel(&mut self, x: Item)
-        requires { x.0 < length self.old.order }
-        ensures order { self.new.order ≡ self.old.order }
-        ensures room { self.new.room ≡ self.old.room }
-        ensures labels { IsSpread self.old.labels self.old.order x.0 self.new.labels }
-        ensures between { slice_index self.new.labels x.0 + 2 ≤ high_of self.new x.0 }
-        // What every list keeps.
-        ensures was_kept { IsKept self.old }
-    {
-        relabel(
-            self.labels.as_mut_slice(),
-            self.nexts.as_slice(),
-            self.prevs.as_slice(),
-            x.0,
-        );
     }
 
     // Puts an item right after x, with a label that is free there.

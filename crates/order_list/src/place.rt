@@ -19,3 +19,10 @@ pub struct Window {
     pub base: u64,
     pub gap: u64,
 }
+
+/// The windows in which the labels of two lists were made anew; `None` for a list of which none were.
+#[derive(Clone, Copy, Debug, PartialEq, Eq)]
+pub struct Windows {
+    pub english: Option<Window>,
+    pub hebrew: Option<Window>,
+}

@@ -25,16 +25,18 @@ fn spread(labels: &mut [u64], nexts: &[Option<u32>], window: Window)
     }
 }
 
-// Spreads the labels of the least sparse window at x. Then there is a label between x and the next item.
-pub fn relabel(labels: &mut [u64], nexts: &[Option<u32>], prevs: &[Option<u32>], x: u32)
+// Spreads the labels of the least sparse window at x, and tells the window. Then there is a label between x and the next
+// item.
+pub fn relabel(labels: &mut [u64], nexts: &[Option<u32>], prevs: &[Option<u32>], x: u32) -> Window
     requires kept { Keeps labels.old nexts.now prevs.now (walk nexts.now (length nexts.now) (Some 0)) }
     requires few { length nexts.now < 2 ^ 32 }
     requires x_in { x < length nexts.now }
     ensures kept { Keeps labels.new nexts.now prevs.now (walk nexts.now (length nexts.now) (Some 0)) }
-    ensures spread { IsSpread labels.old (walk nexts.now (length nexts.now) (Some 0)) x labels.new }
+    ensures spread { IsSpread labels.old (walk nexts.now (length nexts.now) (Some 0)) x result labels.new }
     ensures between { slice_index labels.new x + 2
         ≤ high_by labels.new (next_of x (walk nexts.now (length nexts.now) (Some 0))) }
 {
     let window = window(labels, nexts, prevs, x);
     spread(labels, nexts, window);
+    window
 }

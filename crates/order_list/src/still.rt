@@ -1,12 +1,13 @@
 //! Two lists on one thread.
 ghost use Rattle.std.specs.Prelude.{◌≡◌, ℕ, ◌+◌, ◌<◌, ◌≤◌, false, List, [], ◌∷◌, length, IfOk, IsOk};
 ghost use Rattle.order_list.specs.Ordered.{IsFresh};
-ghost use Rattle.order_list.specs.Labels.{HasInserted};
+ghost use Rattle.order_list.specs.Labels.{HasInserted, HasMadeSpace};
 ghost use Rattle.order_list.specs.Sides.{AreKept, AreSides};
 
 use crate::item::Item;
 use crate::judge::{Judge, Moved, Sides};
 use crate::list::{NoMemory, OrderList};
+use crate::place::Windows;
 use crate::placer::Placer;
 use std::alloc::Global;
 use std::marker::Model;
@@ -55,6 +56,21 @@ impl Still {
         ensures count { length self.now.english.order ≡ length self.now.hebrew.order }
     {
         &self.hebrew
+    }
+
+    /// Makes labels anew in each list exactly where there is none between the place and the next item. It takes no memory.
+    pub fn make_space(&mut self, after_e: Item, after_h: Item) -> Windows
+        requires e_in { after_e.0 < length self.old.english.order }
+        requires h_in { after_h.0 < length self.old.hebrew.order }
+        ensures english { HasMadeSpace self.old.english after_e.0 result.english self.new.english }
+        ensures hebrew { HasMadeSpace self.old.hebrew after_h.0 result.hebrew self.new.hebrew }
+        ensures was_kept { AreKept self.old }
+        ensures kept { AreKept self.new }
+    {
+        Windows {
+            english: self.english.make_space(after_e),
+            hebrew: self.hebrew.make_space(after_h),
+        }
     }
 }
 

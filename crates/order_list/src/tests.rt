@@ -51,18 +51,32 @@ fn the_last_insert_stands_first(rt: HostRuntime) -> Result<(), Fail> {
     Ok(())
 }
 
+fn window_of_five() -> Window {
+    Window {
+        first: Item(0),
+        items: 5,
+        base: 1 << 61,
+        gap: 3,
+    }
+}
+
+#[test]
+fn space_is_made_once(rt: HostRuntime) -> Result<(), Fail> {
+    let mut list = after_inserts(rt.alloc(), 61)?;
+    assert_eq!(rt; list.make_space(Item(0)), Some(window_of_five()));
+    assert_eq!(rt; list.len(), 62);
+    assert_eq!(rt; list.place_after(Item(0)), Place::Label((1 << 61) + 1));
+    assert_eq!(rt; list.make_space(Item(0)), None);
+    assert_eq!(rt; list.label(Item(61)), (1 << 61) + 3);
+    Ok(())
+}
+
 #[test]
 fn labels_are_made_anew(rt: HostRuntime) -> Result<(), Fail> {
     // Item k has the label 2^61 + 2^(61 - k) after 61 inserts. The window of 8 labels has the items 0, 61, 60 and 59, and
     // at most 3 may share it; that of 16 has item 58 too, and at most 5 may share it.
     let mut list = after_inserts(rt.alloc(), 61)?;
-    let window = Window {
-        first: Item(0),
-        items: 5,
-        base: 1 << 61,
-        gap: 3,
-    };
-    assert_eq!(rt; list.window(Item(0)), window);
+    assert_eq!(rt; list.window(Item(0)), window_of_five());
     assert_eq!(rt; list.insert_after(Item(0)), Item(62));
     assert_eq!(rt; list.next(Item(0)), Some(Item(62)));
     let labels = [

@@ -28,7 +28,7 @@ returns-clause-kept c =
 pub returns-clause-spread : goal.returns-clause-spread
 returns-clause-spread c =
     let order = walk c.args.nexts.now (length c.args.nexts.now) (Some 0) in
-    subst (λ l. IsSpread c.args.labels.now order c.args.x l) (sym (new_is c)) (spread' c.args.labels.now c.args.nexts.now c.args.prevs.now order c.args.x c.window-window.result c.requires.kept c.requires.x_in c.window-window.ensures.found)
+    subst (λ l. IsSpread c.args.labels.now order c.args.x c.window-window.result l) (sym (new_is c)) (spread' c.args.labels.now c.args.nexts.now c.args.prevs.now order c.args.x c.window-window.result c.requires.kept c.requires.x_in c.window-window.ensures.found)
 
 pub returns-clause-between : goal.returns-clause-between
 returns-clause-between c =

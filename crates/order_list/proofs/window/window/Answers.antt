@@ -3,7 +3,7 @@ use Rattle.std.specs.Prelude.{slice_index}
 use Rattle.order_list.specs.Chain.{walk}
 use Rattle.order_list.specs.declared.place.Window.{Window}
 use Rattle.order_list.specs.Spans.{IsWithinSpan, IsSpan, IsFound}
-use Rattle.order_list.proofs.Windows.{HasSought, sought_none, sought_within, sought_more, sought_all, least_sparse, found_is, found_window, sparse_is, not_sparse, fits}
+use Rattle.order_list.proofs.Sparse.{HasSought, sought_none, sought_within, sought_more, sought_all, least_sparse, found_is, found_window, sparse_is, not_sparse, fits}
 use Rattle.order_list.proofs.window.window.Goals as goal
 
 pub overflow_add-base : goal.overflow_add-base

@@ -1,6 +1,6 @@
 use Rattle.std.proofs.Common.{length, Some}
 use Rattle.order_list.specs.Chain.{walk}
-use Rattle.order_list.proofs.Windows.{HasSought}
+use Rattle.order_list.proofs.Sparse.{HasSought}
 use Rattle.order_list.proofs.window.window.Given as goal
 
 abbrev pub invariant-loop-i : goal.invariant-loop-i

@@ -1,5 +1,5 @@
 -- The least sparse window.
-use Rattle.std.proofs.Common.{◌≡◌, ◌≢◌, ℕ, ◌+◌, ◌*◌, ◌^◌, ◌<◌, ◌≤◌, ◌∙◌, inl, inr, true, false, List, [], ◌∷◌, ◌++◌, length, sym, subst, ap, refl, arith}
+use Rattle.std.proofs.Common.{◌≡◌, ◌≢◌, ℕ, ◌+◌, ◌*◌, ◌^◌, ◌<◌, ◌≤◌, ◌∙◌, inl, inr, true, false, List, [], ◌∷◌, ◌++◌, length, append_assoc, sym, subst, ap, refl, arith}
 use Rattle.std.specs.Prelude.{Option, None, ◌==◌, Bool, nat_le, slice_index, slice_index_or, unwrap_or}
 use Rattle.std.specs.List.{filter}
 use Rattle.std.proofs.lemmas.List.Elements.{filter-append}
@@ -8,7 +8,7 @@ use Rattle.std.proofs.lemmas.List.{append-nil}
 use Rattle.std.proofs.lemmas.Bool.Decides.{nat_tests}
 use Rattle.order_list.specs.Ordered.{Rises, is_in, head_of}
 use Rattle.order_list.specs.Chain.{Linked, LinkedBack, Keeps}
-use Rattle.order_list.specs.Labels.{is_between, base_of, members, gap_of, IsSparse, IsLeastSparse, IsWindowOf}
+use Rattle.order_list.specs.Labels.{is_between, base_of, members, gap_of, window_at, IsSparse, IsLeastSparse, IsSegment, IsWindowOf}
 use Rattle.order_list.specs.Spans.{Leads, put_before, Falls, IsSpan, IsWithinSpan, IsFound}
 use Rattle.order_list.specs.declared.span.Span.{Span}
 use Rattle.order_list.specs.declared.place.Window.{Window}
@@ -160,15 +160,31 @@ module _ (labels : List ℕ) (nexts prevs : List (Option ℕ)) (order : List ℕ
   pub found_is : (s : Span) (w : Window) → IsLeastSparse labels order x i → IsSpan labels nexts prevs order base (base + 2 ^ i) s → w ≡ record { first = record { 0 = s.first }; items = s.items; base = base; gap = gap_of i s.items } → IsFound labels nexts prevs order x w
   found_is s w least span is = record { size = i; least = least; found = s; span = span; is = is }
 
+-- what stands behind, as a list in order
+pub behind_of : (behind rest : List ℕ) → (b : List ℕ) × (put_before behind rest ≡ b ++ rest)
+behind_of [] rest = ([], refl)
+behind_of (p ∷ ps) rest = let b = behind_of ps (p ∷ rest) in (b.0 ++ p ∷ [], b.1 ∙ sym (append_assoc b.0 (p ∷ []) rest))
+
 -- it is what a relabelling takes
-pub found_window : (labels : List ℕ) (nexts prevs : List (Option ℕ)) (order : List ℕ) (x : ℕ) (w : Window) → IsFound labels nexts prevs order x w → IsWindowOf labels order x w
-found_window labels nexts prevs order x w f =
-    let base = base_of f.size (slice_index labels x) in
-    let items = members_are labels nexts prevs order x f.size f.found f.span in
-    let count = members_count labels nexts prevs order x f.size f.found f.span in
-    let first : unwrap_or (head_of (members labels order x f.size)) 0 ≡ f.found.first = ap (λ l. unwrap_or (head_of l) 0) items ∙ ap (λ o. unwrap_or o 0) f.span.first in
-    let made : ℕ → ℕ → Window = λ a n. record { first = record { 0 = a }; items = n; base = base; gap = gap_of f.size n } in
-    record { size = f.size; least = f.least; is = f.is ∙ sym (ap (λ a. made a (length (members labels order x f.size))) first ∙ ap (λ n. made f.found.first n) count) }
+module _ (labels : List ℕ) (nexts prevs : List (Option ℕ)) (order : List ℕ) (x : ℕ) (w : Window) (f : IsFound labels nexts prevs order x w) where
+  found_items : members labels order x f.size ≡ f.span.items
+  found_items = members_are labels nexts prevs order x f.size f.found f.span
+
+  pub found_is_window : w ≡ window_at labels order x f.size
+  found_is_window =
+      let base = base_of f.size (slice_index labels x) in
+      let count = members_count labels nexts prevs order x f.size f.found f.span in
+      let first : unwrap_or (head_of (members labels order x f.size)) 0 ≡ f.found.first = ap (λ l. unwrap_or (head_of l) 0) found_items ∙ ap (λ o. unwrap_or o 0) f.span.first in
+      let made : ℕ → ℕ → Window = λ a n. record { first = record { 0 = a }; items = n; base = base; gap = gap_of f.size n } in
+      f.is ∙ sym (ap (λ a. made a (length (members labels order x f.size))) first ∙ ap (λ n. made f.found.first n) count)
+
+  pub found_segment : IsSegment order (members labels order x f.size)
+  found_segment =
+      let b = behind_of f.span.behind (f.span.items ++ f.span.ahead) in
+      subst (IsSegment order) (sym found_items) (record { behind = b.0; ahead = f.span.ahead; parts = f.span.parts ∙ b.1 })
+
+  pub found_window : IsWindowOf labels order x w
+  found_window = record { size = f.size; least = f.least; is = found_is_window; segment = found_segment }
 
 -- there is a least sparse window: the widest is sparse
 pub sought_all : (labels : List ℕ) (nexts prevs : List (Option ℕ)) (order : List ℕ) (x : ℕ) (s : Span) → length order < 2 ^ 32 → HasSought labels nexts prevs order x 63 s → ⊥
