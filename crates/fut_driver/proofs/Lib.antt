@@ -1,3 +1,4 @@
+pub mod Cleaned
 pub mod Completing
 pub mod Consuming
 pub mod Endings

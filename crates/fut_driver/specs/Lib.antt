@@ -1,3 +1,4 @@
+pub mod Clean
 pub mod Due
 pub mod Given
 pub mod Numbers

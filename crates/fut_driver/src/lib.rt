@@ -6,6 +6,7 @@
 //! the number that the process ends with.
 #![tactic(auto)]
 
+pub mod clean;
 mod gathered;
 mod input;
 mod judge;
