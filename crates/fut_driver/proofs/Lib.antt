@@ -1,4 +1,7 @@
+pub mod Causes
+pub mod Coming
 pub mod Completing
 pub mod Consuming
 pub mod Endings
 pub mod Naming
+pub mod Wordings

@@ -1,5 +1,6 @@
 pub mod Due
 pub mod Given
+pub mod Laws
 pub mod Numbers
 pub mod Outcomes
 pub mod Process

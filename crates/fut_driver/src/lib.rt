@@ -9,6 +9,7 @@
 mod gathered;
 mod input;
 mod judge;
+pub mod laws;
 pub mod line;
 mod outcome;
 pub mod process;
