@@ -10,6 +10,7 @@ pub mod clean;
 mod gathered;
 mod input;
 mod judge;
+pub mod laws;
 pub mod line;
 mod outcome;
 pub mod process;
