@@ -25,7 +25,7 @@ use Rattle.fut_driver.specs.declared.program.Refusal.{Refusal}
 use Rattle.fut_driver.specs.declared.program.Refusal.TheVariants as refusal
 use Rattle.command_words.specs.declared.words.Command.{Command}
 use Rattle.command_words.specs.declared.words.Command.TheVariants as command
-use Rattle.command_words.specs.Asking.{AreWordsOf, IsBound}
+use Rattle.command_words.specs.Asking.{AreWordsOf, IsBound, most_bytes}
 use Rattle.fut_driver.specs.Given.{Asked, Asks}
 use Rattle.fut_driver.specs.Due.{due_text, run_due, legal_text}
 use Rattle.fut_driver.specs.Outcomes.{ending_of, status_of, IsOfTree, IsRefused, RanAs, IsOutcome}
@@ -93,7 +93,7 @@ ran_as P bound brief text s h made code races end cells is run report due of typ
 
 -- ---- verdicts
 
-of_run : (a : Asked) (bound : ℕ) (brief : Bool) (text : List ℕ) (P : tree.Program) (s : Status) (h : List Event) (made : List ℕ) → Asks a (command.Run bound brief) → IsRead a text → IsWellTypedText text P → RanAs P bound brief text s h made → IsOfHistory a s h made
+of_run : (a : Asked) (bound : ℕ) (brief : Bool) (text : List ℕ) (P : tree.Program) (s : Status) (h : List Event) (made : List ℕ) → Asks a (command.Run bound brief) → IsRead a (command.Run bound brief) text → IsWellTypedText text P → RanAs P bound brief text s h made → IsOfHistory a s h made
 of_run a bound brief text P s h made words read typed r = inl (record {
   bound = bound;
   brief = brief;
@@ -110,7 +110,7 @@ of_run a bound brief text P s h made words read typed r = inl (record {
   replayed = λ no. (record { program = text; record_is = r.recorded no; typed = typed }, accepted_run P bound h r.races r.end r.cells r.ends.0);
 })
 
-pub run_verdict : (a : Asked) (bound : ℕ) (brief : Bool) (text : List ℕ) (P : tree.Program) (s : Status) (h : List Event) (made : List ℕ) → IsWellTypedText text P → RanAs P bound brief text s h made → Asks a (command.Run bound brief) → IsRead a text → IsVerdict a s h (due_text s made)
+pub run_verdict : (a : Asked) (bound : ℕ) (brief : Bool) (text : List ℕ) (P : tree.Program) (s : Status) (h : List Event) (made : List ℕ) → IsWellTypedText text P → RanAs P bound brief text s h made → Asks a (command.Run bound brief) → IsRead a (command.Run bound brief) text → IsVerdict a s h (due_text s made)
 run_verdict a bound brief text P status.Clean h made typed r words read = of_run a bound brief text P status.Clean h made words read typed r
 run_verdict a bound brief text P status.Raced h made typed r words read = of_run a bound brief text P status.Raced h made words read typed r
 run_verdict a bound brief text P (status.Spent end) h made typed r words read = of_run a bound brief text P (status.Spent end) h made words read typed r
@@ -126,11 +126,11 @@ run_verdict a bound brief text P status.Usage h made typed r words read = absurd
 run_verdict a bound brief text P status.TooLong h made typed r words read = absurd r.ends.1
 
 -- a record that was accepted
-record_by : (a : Asked) (bytes : List ℕ) (P : tree.Program) (h : List Event) (races : List Race) (end : Finish) (s : Status) (made : List ℕ) → Says s end races → IsRecordOf bytes P h races end → IsAccepted P h races end → made ≡ legal_text (length h) (length races) → Asks a command.Replay → IsRead a bytes → IsOfHistory a s h made
+record_by : (a : Asked) (bytes : List ℕ) (P : tree.Program) (h : List Event) (races : List Race) (end : Finish) (s : Status) (made : List ℕ) → Says s end races → IsRecordOf bytes P h races end → IsAccepted P h races end → made ≡ legal_text (length h) (length races) → Asks a command.Replay → IsRead a command.Replay bytes → IsOfHistory a s h made
 record_by a bytes P h races end s made says of accepted due words read =
     inr (record { words = words; bytes = bytes; read = read; tree = P; races = races; end = end; good = (of, accepted); says = says; is_due = due })
 
-pub record_verdict : (a : Asked) (bytes : List ℕ) (P : tree.Program) (h : List Event) (races : List Race) (end : Finish) (made : List ℕ) → IsRecordOf bytes P h races end → IsAccepted P h races end → made ≡ legal_text (length h) (length races) → Asks a command.Replay → IsRead a bytes → IsVerdict a (ending_of end races) h (due_text (ending_of end races) made)
+pub record_verdict : (a : Asked) (bytes : List ℕ) (P : tree.Program) (h : List Event) (races : List Race) (end : Finish) (made : List ℕ) → IsRecordOf bytes P h races end → IsAccepted P h races end → made ≡ legal_text (length h) (length races) → Asks a command.Replay → IsRead a command.Replay bytes → IsVerdict a (ending_of end races) h (due_text (ending_of end races) made)
 record_verdict a bytes P h [] finish.Whole made of accepted due words read = record_by a bytes P h [] finish.Whole status.Clean made (says finish.Whole []) of accepted due words read
 record_verdict a bytes P h (r ∷ rs) finish.Whole made of accepted due words read = record_by a bytes P h (r ∷ rs) finish.Whole status.Raced made (says finish.Whole (r ∷ rs)) of accepted due words read
 record_verdict a bytes P h races (finish.Events b) made of accepted due words read = record_by a bytes P h races (finish.Events b) (status.Spent (finish.Events b)) made (says (finish.Events b) races) of accepted due words read
@@ -138,27 +138,27 @@ record_verdict a bytes P h races (finish.Local t) made of accepted due words rea
 record_verdict a bytes P h races (finish.Futures t) made of accepted due words read = record_by a bytes P h races (finish.Futures t) (status.Spent (finish.Futures t)) made (says (finish.Futures t) races) of accepted due words read
 
 -- the program text was refused
-refused_as : (a : Asked) (c : Command) (bytes program : List ℕ) (f : Refusal) (h : List Event) (made : List ℕ) → h ≡ [] → IsGiven c bytes program → IsRefused program f → Asks a c → IsRead a bytes → IsVerdict a (status_of f) h (due_text (status_of f) made)
+refused_as : (a : Asked) (c : Command) (bytes program : List ℕ) (f : Refusal) (h : List Event) (made : List ℕ) → h ≡ [] → IsGiven c bytes program → IsRefused program f → Asks a c → IsRead a c bytes → IsVerdict a (status_of f) h (due_text (status_of f) made)
 refused_as a c bytes program (refusal.Syntax line column) h made none given is words read =
     (c, record { words = words; no_run = none; is_due = refl; bytes = bytes; read = read; holds = (program, given, is) })
 refused_as a c bytes program (refusal.IllTyped rule line column) h made none given is words read =
     (c, record { words = words; no_run = none; is_due = refl; bytes = bytes; read = read; holds = (program, given, is) })
 refused_as a c bytes program refusal.NoMemory h made none given is words read = (none, refl, read.quiet)
 
-pub refused : (a : Asked) (c : Command) (bytes program : List ℕ) (f : Refusal) (s : Status) (h : List Event) (made : List ℕ) → s ≡ status_of f → h ≡ [] → IsGiven c bytes program → IsRefused program f → Asks a c → IsRead a bytes → IsVerdict a s h (due_text s made)
+pub refused : (a : Asked) (c : Command) (bytes program : List ℕ) (f : Refusal) (s : Status) (h : List Event) (made : List ℕ) → s ≡ status_of f → h ≡ [] → IsGiven c bytes program → IsRefused program f → Asks a c → IsRead a c bytes → IsVerdict a s h (due_text s made)
 refused a c bytes program f s h made is none given holds words read =
     subst (λ x. IsVerdict a x h (due_text x made)) (sym is) (refused_as a c bytes program f h made none given holds words read)
 
-pub not_run : (a : Asked) (s : Status) (h : List Event) (made bytes : List ℕ) (byte : ℕ) → s ≡ status.NotRun byte → h ≡ [] → IsFault bytes byte → Asks a command.Replay → IsRead a bytes → IsVerdict a s h (due_text s made)
+pub not_run : (a : Asked) (s : Status) (h : List Event) (made bytes : List ℕ) (byte : ℕ) → s ≡ status.NotRun byte → h ≡ [] → IsFault bytes byte → Asks a command.Replay → IsRead a command.Replay bytes → IsVerdict a s h (due_text s made)
 not_run a s h made bytes byte is none fault words read =
     subst (λ x. IsVerdict a x h (due_text x made)) (sym is) (record { words = words; no_run = none; is_due = refl; bytes = bytes; read = read; holds = fault })
 
 -- ---- words
 
 -- what comes of words of a command is no usage
-pub not_usage : (m : Bool) (words : List (List ℕ)) (c : Command) (bytes : List ℕ) (s : Status) (h : List Event) (made : List ℕ) → AreWordsOf m words c → IsOutcome c bytes s h made → s ≡ status.Usage → ⊥
-not_usage m words c bytes s h made asks o is =
+pub not_usage : (m : Bool) (words : List (List ℕ)) (c : Command) (bytes : List ℕ) (s : Status) (h : List Event) (made : List ℕ) → AreWordsOf m words c → length bytes ≤ most_bytes c → IsOutcome c bytes s h made → s ≡ status.Usage → ⊥
+not_usage m words c bytes s h made asks short o is =
     let a : Asked = record { may_run = m; words = words; left_before = None; left_after = None; ended = true; faults_before = 0; faults_after = 0 } in
-    let read : IsRead a bytes = record { taken = tt; nothing_left = tt; ended = refl; quiet = refl } in
+    let read : IsRead a c bytes = record { short = short; taken = tt; nothing_left = tt; ended = refl; quiet = refl } in
     let v : IsVerdict a status.Usage h (due_text status.Usage made) = subst (λ x. IsVerdict a x h (due_text x made)) is (o a asks read) in
     v.0 c asks

@@ -1,6 +1,9 @@
+pub mod Clean
 pub mod Due
 pub mod Given
+pub mod Laws
 pub mod Numbers
 pub mod Outcomes
+pub mod Process
 pub mod Reading
 pub mod Verdict

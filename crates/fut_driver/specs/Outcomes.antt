@@ -63,4 +63,4 @@ pub record RanAs (P : tree.Program) (bound : ℕ) (brief : Bool) (text : List �
 
 -- wherever a command read these bytes, this is a verdict
 abbrev pub IsOutcome : Command → List ℕ → Status → List Event → List ℕ → Type 0
-IsOutcome c bytes s h made = (a : Asked) → Asks a c → IsRead a bytes → IsVerdict a s h (due_text s made)
+IsOutcome c bytes s h made = (a : Asked) → Asks a c → IsRead a c bytes → IsVerdict a s h (due_text s made)

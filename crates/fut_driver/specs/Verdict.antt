@@ -31,8 +31,9 @@ use Rattle.command_words.specs.declared.words.Command.TheVariants as command
 
 -- ---- what was read
 
--- these are all bytes that the source had; a take answered its end, and none failed
-pub record IsRead (a : Asked) (bytes : List ℕ) : Type 0 where
+-- these are all bytes that the source had, as many as the command reads at most; a take answered the end, and none failed
+pub record IsRead (a : Asked) (c : Command) (bytes : List ℕ) : Type 0 where
+  pub short : length bytes ≤ most_bytes c
   pub taken : Consumes a.left_before a.left_after bytes
   pub nothing_left : IsAtEnd a.left_after
   pub ended : a.ended ≡ true
@@ -110,7 +111,7 @@ pub record IsOfRun (a : Asked) (s : Status) (h : List Event) (text : List ℕ) :
   pub brief : Bool
   pub words : Asks a (command.Run bound brief)
   pub bytes : List ℕ
-  pub read : IsRead a bytes
+  pub read : IsRead a (command.Run bound brief) bytes
   pub tree : tree.Program
   pub program : IsWellTypedText bytes tree
   pub races : List Race
@@ -125,7 +126,7 @@ pub record IsOfRun (a : Asked) (s : Status) (h : List Event) (text : List ℕ) :
 pub record IsOfRecord (a : Asked) (s : Status) (h : List Event) (text : List ℕ) : Type 0 where
   pub words : Asks a command.Replay
   pub bytes : List ℕ
-  pub read : IsRead a bytes
+  pub read : IsRead a command.Replay bytes
   pub tree : tree.Program
   pub races : List Race
   pub end : Finish
@@ -149,7 +150,7 @@ pub record IsOfBytes (a : Asked) (c : Command) (h : List Event) (text due : List
   pub no_run : h ≡ []
   pub is_due : text ≡ due
   pub bytes : List ℕ
-  pub read : IsRead a bytes
+  pub read : IsRead a c bytes
   pub holds : Holds bytes
 
 -- the same of some command, and it holds of the program text that the command finds in the bytes

@@ -1,5 +1,7 @@
 //! Calls by words over a source and a sink in memory.
 mod guide;
+mod lengths;
+mod process;
 mod records;
 mod replays;
 mod runs;

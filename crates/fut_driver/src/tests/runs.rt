@@ -243,32 +243,6 @@ fn brief_texts(rt: HostRuntime) -> Result<(), Fail> {
     Ok(())
 }
 
-/// The greatest length of a text, in bytes.
-const LONGEST: usize = 1_048_576;
-
-#[test]
-fn the_longest_texts(rt: HostRuntime) -> Result<(), Fail> {
-    let alloc = rt.alloc();
-    let mut text = String::from_str(alloc, "")?;
-    for _ in 0..LONGEST / 32 {
-        text.push_str("                                ")?;
-    }
-    let answer = ask(alloc, &CHECK, text.as_str().as_bytes())?;
-    let status = Status::Syntax {
-        line: 1,
-        column: 1_048_577,
-    };
-    assert_eq!(rt; answer.status, status);
-    assert_eq!(rt; answer.text.as_slice(), b"syntax 1:1048577\n".as_slice());
-    text.push_str(" ")?;
-    for words in [CHECK.as_slice(), RUN.as_slice()] {
-        let answer = ask(alloc, words, text.as_str().as_bytes())?;
-        assert_eq!(rt; answer.status, Status::TooLong);
-        assert_eq!(rt; answer.text.as_slice(), b"too long\n".as_slice());
-    }
-    Ok(())
-}
-
 #[test]
 fn answers_of_check(rt: HostRuntime) -> Result<(), Fail> {
     let cases = [
