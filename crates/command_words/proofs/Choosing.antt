@@ -7,7 +7,7 @@ use Rattle.std.proofs.lemmas.List.{append-nil, length-map}
 use Rattle.command_words.specs.declared.options.Choice.{Choice}
 use Rattle.command_words.specs.declared.options.Choice.TheVariants as choice
 use Rattle.command_words.specs.declared.options.Seen as declared
-use Rattle.command_words.specs.Asking.{IsBound, MayStand, EachMayStand, spelling, spellings, times, count, IsOnce, is_events, is_brief, is_workers, bound_of, AreOptions}
+use Rattle.command_words.specs.Asking.{IsBound, MayStand, EachMayStand, spelling, spellings, times, count, IsOnce, is_events, is_brief, is_workers, bound_of, is_brief_in, AreOptions}
 use Rattle.command_words.specs.Seen.{IsSeen, IsAgain}
 
 -- the number that a written bound is read as
@@ -208,3 +208,19 @@ all_read workers words rest seen so_far none =
       bound = s.bound;
       brief_is = times_some seen.brief _ s.brief;
     }
+
+-- ---- words say one thing
+
+nothing_more : (more : List Choice) → [] ≡ spellings more → more ≡ []
+nothing_more [] e = refl
+nothing_more (c ∷ cs) e = absurd (spelling_some c (spellings cs) (sym e))
+
+one_choices : (workers : Bool) (cs ds : List Choice) → EachMayStand workers cs → EachMayStand workers ds → spellings cs ≡ spellings ds → ds ≡ cs
+one_choices workers cs ds a b e =
+    let s = splits workers cs ds [] a b (sym e ∙ sym (append-nil (spellings cs))) in
+    s.is ∙ (ap (λ more. cs ++ more) (nothing_more s.more s.written) ∙ append-nil cs)
+
+pub one_options : (workers : Bool) (words : List (List ℕ)) (m n : ℕ) (b d : Bool) → AreOptions workers words m b → AreOptions workers words n d → (m ≡ n) × (b ≡ d)
+one_options workers words m n b d p q =
+    let same = one_choices workers p.choices q.choices p.allowed q.allowed (sym p.written ∙ q.written) in
+    (p.bound ∙ (ap bound_of (sym same) ∙ sym q.bound), p.brief_is ∙ (ap is_brief_in (sym same) ∙ sym q.brief_is))

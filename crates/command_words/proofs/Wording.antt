@@ -1,10 +1,11 @@
 -- Words that begin with the name of a command.
-use Rattle.std.proofs.Common.{◌≡◌, ℕ, Bool, true, false, List, [], ◌∷◌, inl, inr, sym, ap, ◌∙◌, subst, arith, codes, slice_index}
+use Rattle.std.proofs.Common.{◌≡◌, ℕ, Bool, true, false, List, [], ◌∷◌, inl, inr, refl, sym, ap, ◌∙◌, subst, arith, codes, slice_index}
 use Rattle.std.specs.Prelude.{Option, Some, None, MatchOption}
 use Rattle.command_words.specs.declared.options.Choice.{Choice}
 use Rattle.command_words.specs.declared.options.Choice.TheVariants as choice
 use Rattle.command_words.specs.declared.words.Command.{Command}
 use Rattle.command_words.specs.declared.words.Command.TheVariants as command
+use Rattle.command_words.proofs.Choosing.{one_options}
 use Rattle.command_words.specs.Asking.{EachMayStand, bound_of, IsBound, IsBounded, AreOptions, AreWordsOf, Commands}
 
 -- two lists that are one begin with one item
@@ -77,3 +78,28 @@ bounded m words command.Check w = tt
 bounded m words command.Replay w = tt
 bounded m words (command.Run events brief) (inl w) = options_bounded false w.0 events brief w.2
 bounded m words (command.Run events brief) (inr w) = options_bounded true w.0 events brief w.3
+
+-- ---- one command
+
+one_run : (workers : Bool) (x y : List (List ℕ)) (m n : ℕ) (b d : Bool) → x ≡ y → AreOptions workers x m b → AreOptions workers y n d → command.Run m b ≡ command.Run n d
+one_run workers x y m n b d e p q =
+    let same = one_options workers y m n b d (subst (λ r. AreOptions workers r m b) e p) q in
+    ap (λ k. command.Run k b) same.0 ∙ ap (λ k. command.Run n k) same.1
+
+pub one_command : (m : Bool) (words : List (List ℕ)) (c d : Command) → AreWordsOf m words c → AreWordsOf m words d → c ≡ d
+one_command m words command.Check command.Check v w = refl
+one_command m words command.Check command.Replay v w = absurd (check_replay (same_head words _ _ _ _ v w))
+one_command m words command.Check (command.Run _ _) v (inl w) = absurd (serial_check (same_head words _ _ _ _ w.1 v))
+one_command m words command.Check (command.Run _ _) v (inr w) = absurd (run_check (same_head words _ _ _ _ w.2 v))
+one_command m words command.Replay command.Check v w = absurd (check_replay (same_head words _ _ _ _ w v))
+one_command m words command.Replay command.Replay v w = refl
+one_command m words command.Replay (command.Run _ _) v (inl w) = absurd (serial_replay (same_head words _ _ _ _ w.1 v))
+one_command m words command.Replay (command.Run _ _) v (inr w) = absurd (run_replay (same_head words _ _ _ _ w.2 v))
+one_command m words (command.Run _ _) command.Check (inl v) w = absurd (serial_check (same_head words _ _ _ _ v.1 w))
+one_command m words (command.Run _ _) command.Check (inr v) w = absurd (run_check (same_head words _ _ _ _ v.2 w))
+one_command m words (command.Run _ _) command.Replay (inl v) w = absurd (serial_replay (same_head words _ _ _ _ v.1 w))
+one_command m words (command.Run _ _) command.Replay (inr v) w = absurd (run_replay (same_head words _ _ _ _ v.2 w))
+one_command m words (command.Run i b) (command.Run j d) (inl v) (inl w) = one_run false v.0 w.0 i j b d (same_rest words _ w.0 v.0 w.1 v.1) v.2 w.2
+one_command m words (command.Run i b) (command.Run j d) (inl v) (inr w) = absurd (serial_run (same_head words _ _ _ _ v.1 w.2))
+one_command m words (command.Run i b) (command.Run j d) (inr v) (inl w) = absurd (serial_run (same_head words _ _ _ _ w.1 v.2))
+one_command m words (command.Run i b) (command.Run j d) (inr v) (inr w) = one_run true v.0 w.0 i j b d (same_rest words _ w.0 v.0 w.2 v.2) v.3 w.3

@@ -1,66 +1,41 @@
 //! The program `forder`: it runs a program of the task language, and reports its determinacy races; or checks the record of
 //! such a run.
 //!
-//! `forder` of the module `top` is the call that `main` makes. Its contract is the theorem.
+//! `carry_out` of the crate `fut_driver` does all of it, and `forder` of that crate is the call that it makes. Their contracts are
+//! the theorem.
 #![tactic(auto)]
 
-mod gathered;
-mod input;
-mod judge;
-mod outcome;
-mod program;
-mod replay;
-mod run;
-mod status;
-#[cfg(test)]
-mod tests;
-mod top;
+ghost use Rattle.std.specs.Prelude.{true};
+ghost use Rattle.std.specs.Process.{exit_status};
+ghost use Rattle.fut_driver.specs.declared.line.Line.{Line};
+ghost use Rattle.fut_driver.specs.Given.{Asked};
+ghost use Rattle.fut_driver.specs.Process.{EndsWith};
+ghost use Rattle.fut_driver.specs.Verdict.{Told};
 
-use crate::status::{Ended, Status};
-use crate::top::forder;
-use command_words::words::Words;
 use fut_base::gate::FreeGate;
+use fut_base::ports::{Sink, Source};
 use fut_base::standard::{StdSink, StdSource};
+use fut_driver::process::carry_out;
+use std::env;
 use std::env::Env;
 use std::process::ExitCode;
-use std::{env, io};
 
-/// The words after the program's name.
-enum Given {
-    Words(Words),
-    /// Some word is not UTF-8.
-    Foreign,
-    NoMemory,
-}
-
-/// The words of the command line.
-fn words_of<R: Env + AllocGlobal>(rt: &R) -> Given {
-    let all = match env::args(rt) {
-        Ok(all) => all,
-        Err(error) => {
-            return match error.kind() {
-                io::ErrorKind::OutOfMemory => Given::NoMemory,
-                _ => Given::Foreign,
-            };
-        }
-    };
-    let mut words = Words::make(rt.alloc());
-    for word in all.skip(1) {
-        if words.push(word.as_str()).is_err() {
-            return Given::NoMemory;
-        }
-    }
-    Given::Words(words)
+/// Does what the process's words ask for, over this source and this sink. Which words those are the outside decides.
+fn answer<R: Env + AllocGlobal, S: Source, K: Sink>(
+    rt: &R,
+    source: &mut S,
+    out: &mut K,
+) -> ExitCode
+    ensures { (line : Line) × EndsWith line
+        (λ words. record { may_run = true; words = words; left_before = S.left source.old; left_after = S.left source.new; ended = S.ended source.new; faults_before = S.faults source.old; faults_after = S.faults source.new })
+        (record { held_before = K.held out.old; held_after = K.held out.new; faults_before = K.faults out.old; faults_after = K.faults out.new })
+        (exit_status result) }
+{
+    carry_out(rt, rt.alloc(), env::args(rt), source, out, &FreeGate)
 }
 
 fn main(rt: HostRuntime) -> ExitCode {
-    let words = match words_of(&rt) {
-        Given::Words(words) => words,
-        Given::Foreign => Words::make(rt.alloc()),
-        Given::NoMemory => return ExitCode::from(Status::NoMemory.number()),
-    };
     let mut source = StdSource::make(rt.stdin());
     let mut out = StdSink::make(rt.stdout());
-    let Ended { status, .. } = forder(&rt, rt.alloc(), &words, &mut source, &mut out, &FreeGate);
-    ExitCode::from(status.number())
+    answer(&rt, &mut source, &mut out)
 }

@@ -1,12 +1,12 @@
 -- No path leads from the strand of a later event to that of an earlier one.
-use Rattle.std.proofs.Common.{◌≡◌, ◌<◌, ◌≤◌, List, [], ◌∷◌, ◌++◌, inl, inr, refl, sym, ap, ◌∙◌, subst, arith}
+use Rattle.std.proofs.Common.{◌≡◌, ◌↔◌, ℕ, ◌<◌, ◌≤◌, List, [], ◌∷◌, ◌++◌, inl, inr, refl, sym, ap, ◌∙◌, subst, arith}
 use Rattle.std.proofs.lemmas.List.{reverse-append}
 use Rattle.std.proofs.lemmas.List.Elements.{filter-append}
 use Rattle.std.specs.Prelude.{Some, None, option_map, reverse}
 use Rattle.fut_base.specs.declared.record.Value.{Value}
 use Rattle.fut_base.specs.declared.event.Event.{Event}
 use Rattle.fut_base.specs.Events.{structural, structure_of}
-use Rattle.fut_base.specs.Dag.{Among, ReachesBy, edges_past, last_of}
+use Rattle.fut_base.specs.Dag.{Among, Reaches, ReachesBy, edges_past, last_of}
 use Rattle.fut_base.specs.Sound.{IsSoundPast, current, next_strand}
 use Rattle.fut_syntax.specs.Trees as tree
 use Rattle.task_machine.specs.Machine.{Machine, opening, Leads}
@@ -14,7 +14,7 @@ use Rattle.task_machine.proofs.Leading.{split}
 use Rattle.task_machine.proofs.Making.{strands_rise, strands_were_made}
 use Rattle.strand_laws.proofs.Still.{current_ends_paths, paths_are_kept}
 use Rattle.strand_laws.proofs.Structure.{structure_has_edges}
-use Rattle.run_laws.specs.Laws.{LaterReachesNone, Mirrors, past_of}
+use Rattle.run_laws.specs.Laws.{LaterReachesNone, PathsOutlast, Mirrors, past_of}
 use Rattle.run_laws.proofs.Mirrored.{mirrors}
 use Rattle.run_laws.proofs.Once.{shifted, strands_grow}
 use Rattle.run_laws.proofs.Sound.{sound_past}
@@ -50,3 +50,20 @@ later_reaches_none P before e later (m, l) d a reach =
     subst (λ es. ReachesBy es e.strand d.strand) (sym (structure_has_edges (before ++ e ∷ later)) ∙ ap edges_past whole) reach in
     let kept = (paths_are_kept (reverse (structure_of (e ∷ later))) (past_of before) sp e.strand d.strand (omega arith)).0 there in
     sym (current_ends_paths (past_of before) (sound_past P before k.0 k.1) e.task e.strand d.strand cur run kept)
+
+-- the paths of a legal history are those of its structure
+in_structure : (h : List Event) (u v : ℕ) → Reaches h u v ↔ ReachesBy (edges_past (past_of h)) u v
+in_structure h u v = (subst (λ es. ReachesBy es u v) (sym (structure_has_edges h)), subst (λ es. ReachesBy es u v) (structure_has_edges h))
+
+pub paths_outlast : PathsOutlast
+paths_outlast P before later m l (n, whole) u v low =
+    let x : Mirrors (past_of before) m = mirrors P before m l in
+    let same : next_strand (past_of before) ≡ m.strands = x.strands in
+    let parts = past_split before later in
+    let sp : IsSoundPast (reverse (structure_of later) ++ past_of before) = subst IsSoundPast parts (sound_past P (before ++ later) n whole) in
+    let kept = paths_are_kept (reverse (structure_of later)) (past_of before) sp u v (omega arith) in
+    let short = in_structure before u v in
+    let long = in_structure (before ++ later) u v in (
+      λ r. long.1 (subst (λ l. ReachesBy (edges_past l) u v) (sym parts) (kept.1 (short.0 r))),
+      λ r. short.1 (kept.0 (subst (λ l. ReachesBy (edges_past l) u v) parts (long.0 r))),
+    )

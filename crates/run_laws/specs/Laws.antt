@@ -1,5 +1,5 @@
 -- Laws of legal histories. Lists of events called `past` have the newest event first.
-use Rattle.std.specs.Prelude.{◌≡◌, ◌≢◌, ℕ, ◌<◌, ◌≤◌, Bool, true, ◌==◌, ◌&&◌, List, [], ◌∷◌, ◌++◌, length, count_by, reverse, slice_get, Some, None, option_map, ◌⊎◌}
+use Rattle.std.specs.Prelude.{◌≡◌, ◌≢◌, ℕ, ◌<◌, ◌≤◌, Bool, true, ◌==◌, ◌&&◌, List, [], ◌∷◌, ◌++◌, length, count_by, reverse, slice_get, Some, None, option_map, ◌⊎◌, ◌↔◌}
 use Rattle.fut_base.specs.declared.record.Value.{Value}
 use Rattle.fut_base.specs.declared.record.Value.TheVariants.{Fut}
 use Rattle.fut_base.specs.declared.event.Event.{Event}
@@ -213,3 +213,9 @@ abbrev pub LaterReachesNone : Type 0
 LaterReachesNone =
     (P : tree.Program) (before : List Event) (e : Event) (later : List Event) → IsLegal P (before ++ e ∷ later)
     → (d : Event) → Among d before → Reaches (before ++ e ∷ later) e.strand d.strand → e.strand ≡ d.strand
+
+-- to a strand that a legal history has, a path of it is one of each longer legal history, and back
+abbrev pub PathsOutlast : Type 0
+PathsOutlast =
+    (P : tree.Program) (before later : List Event) (m : Machine) → Leads P (opening P) before m → IsLegal P (before ++ later)
+    → (u v : ℕ) → v < m.strands → Reaches before u v ↔ Reaches (before ++ later) u v

@@ -1,5 +1,5 @@
 //! Laws of legal histories.
-ghost use Rattle.run_laws.specs.Laws.{BegunOnce, ChildrenStandBefore, EndedOnce, EvaluationMakesNoHandle, FirstExists, FirstIsOne, GetsFollowEnds, HandlesAreHeld, HandlesStandBefore, LaterReachesNone, LeftForGood, LeftOnce, LegalIsSound, MirrorsStructure, NoneIsStuck, StrandsAreOwn, ValueWasEnded, WellTypedHasCells, WholeLeavesEach};
+ghost use Rattle.run_laws.specs.Laws.{BegunOnce, ChildrenStandBefore, EndedOnce, EvaluationMakesNoHandle, FirstExists, FirstIsOne, GetsFollowEnds, HandlesAreHeld, HandlesStandBefore, LaterReachesNone, LeftForGood, LeftOnce, LegalIsSound, MirrorsStructure, NoneIsStuck, PathsOutlast, StrandsAreOwn, ValueWasEnded, WellTypedHasCells, WholeLeavesEach};
 ghost use Rattle.run_laws.specs.Ready.{ReadyRun, ReadyIsFirst, NoneIsReady, FirstMayGoOn};
 ghost use Rattle.run_laws.specs.Rows.{FutureRow};
 
@@ -117,6 +117,11 @@ pub fn first_may_go_on()
 /// No path leads from the strand of a later entry to that of an earlier one, unless it is the same strand.
 pub fn later_reaches_none()
     ensures { LaterReachesNone }
+{}
+
+/// To a strand that a legal history has, the same paths lead in each longer legal history.
+pub fn paths_outlast()
+    ensures { PathsOutlast }
 {}
 
 /// The laws' words on a run worked out by hand.

@@ -11,3 +11,4 @@ pub mod Sameness
 pub mod Only
 pub mod Finding
 pub mod Stepping
+pub mod OneRun

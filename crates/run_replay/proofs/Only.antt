@@ -42,13 +42,13 @@ is_for m r w (Gets future value strand) is may =
     ap (action_for m) is ∙ (ap (λ (o : Option Value). option_map (λ v. Gets future v m.strands) o) may.1 ∙ ap (λ x. Some (Gets future value x)) (sym may.0))
 is_for m r w (Ends value) is may = ap (action_for m) is
 
-one_action : (P : tree.Program) (m : Machine) (r : Running) (a b : Action) → CanAct P m r a → CanAct P m r b → a ≡ b
+pub one_action : (P : tree.Program) (m : Machine) (r : Running) (a b : Action) → CanAct P m r a → CanAct P m r b → a ≡ b
 one_action P m r a b x y =
     let same = stands_at_one r.state x.stop y.stop x.stands y.stands in
     some_same a b (sym (is_for m r (wish_of P x.stop) a x.answers x.permits) ∙ (ap (λ s. action_for m (wish_of P s)) same ∙ is_for m r (wish_of P y.stop) b y.answers y.permits))
 
 -- an event that is a step is of its task, which may do it
-steps_can : (P : tree.Program) (m n : Machine) (e : Event) (r : Running) → IsRunning m e.task r → IsStep P m e n → CanAct P m r e.action × (r.strand ≡ e.strand)
+pub steps_can : (P : tree.Program) (m n : Machine) (e : Event) (r : Running) → IsRunning m e.task r → IsStep P m e n → CanAct P m r e.action × (r.strand ≡ e.strand)
 steps_can P m n e r run step =
     let same : step.task ≡ r = some_same step.task r (sym step.present ∙ run.0) in
     subst (λ (q : Running). CanAct P m q e.action × (q.strand ≡ e.strand)) same (record { stop = step.stop; stands = step.stands; answers = step.answers; permits = step.permits }, step.strand)

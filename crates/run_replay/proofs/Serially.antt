@@ -72,11 +72,13 @@ ended_at [] t r each e = cc
 ended_at (q ∷ rs) zero r each e = let same : q ≡ r = some_same q r e in subst (λ (x : Running). IsSome x.value) same each.0
 ended_at (q ∷ rs) (suc t) r each e = ended_at rs t r each.1 e
 
+pub not_ended : (m : Machine) (t : ℕ) (r : Running) → EachEnded m.tasks → IsRunning m t r → ⊥
+not_ended m t r each run = false≢true (sym (ap (λ (o : Option Value). is_some o) run.1) ∙ ended_at m.tasks t r each run.0)
+
 pub not_whole : (P : tree.Program) (h : List Event) (m : Machine) (t : ℕ) (r : Running) → Leads P (opening P) h m → IsRunning m t r → IsWhole P h → ⊥
 not_whole P h m t r leads run all =
     let same : all.0 ≡ m = leads_to_one P (opening P) h all.0 m all.1 leads in
-    let some = ended_at m.tasks t r (subst (λ (n : Machine). EachEnded n.tasks) same all.2) run.0 in
-    false≢true (sym (ap (λ (o : Option Value). is_some o) run.1) ∙ some)
+    not_ended m t r (subst (λ (n : Machine). EachEnded n.tasks) same all.2) run
 
 pub stops_hold : (P : tree.Program) (code : Compiled) (limits : Limits) (h : List Event) (now : ReplayNow) (x : Runs P code limits h now) (f : Finish) → limits.futures ≡ 4096 → Stops P limits h x.machine f → FinishHolds P h f
 stops_hold P code limits h now x finish.Whole most s = (x.machine, x.replay.leads, s)
@@ -89,7 +91,7 @@ stops_hold P code limits h now x (finish.Futures u) most (t, r, first, (is, full
 
 pub serial_run : (P : tree.Program) (code : Compiled) (limits : Limits) (h : List Event) (now : ReplayNow) (x : Runs P code limits h now) (f : Finish) → limits.futures ≡ 4096 → Stops P limits h x.machine f → IsSerialRun P limits h f now.cells
 serial_run P code limits h now x f most s =
-    record { machine = x.machine; leads = x.replay.leads; serial = x.serial; few = x.few; stops = s; holds = stops_hold P code limits h now x f most s; cells_are = x.replay.cells }
+    record { machine = x.machine; leads = x.replay.leads; serial = x.serial; few = x.few; creates_few = x.creates_few; stops = s; holds = stops_hold P code limits h now x f most s; cells_are = x.replay.cells }
 
 pub runs_first : (P : tree.Program) (code : Compiled) (limits : Limits) (now : ReplayNow) → IsReplayOf P code [] now (opening P) → Runs P code limits [] now
 runs_first P code limits now x = record { machine = opening P; replay = x; serial = tt; few = omega arith; creates_few = omega arith }

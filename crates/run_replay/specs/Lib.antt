@@ -1,3 +1,4 @@
+pub mod Laws
 pub mod Next
 pub mod Ready
 pub mod Replays

@@ -32,6 +32,7 @@ pub record IsSerialRun (P : tree.Program) (limits : Limits) (h : List Event) (f 
   pub leads : Leads P (opening P) h machine
   pub serial : IsSerial P h
   pub few : length h ≤ limits.events
+  pub creates_few : create_count h ≤ limits.futures
   pub stops : Stops P limits h machine f
   pub holds : FinishHolds P h f
   pub cells_are : cells ≡ machine.cells

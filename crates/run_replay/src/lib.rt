@@ -2,6 +2,7 @@
 #![tactic(auto)]
 
 pub mod copies;
+pub mod laws;
 pub mod line;
 mod ready;
 pub mod replay;

@@ -48,7 +48,7 @@ pub struct Spot {
     pub steps: u32,
 }
 
-/// A task of a run. It runs one task of the text.
+/// A task of a run. It runs one task of the text, and has made at most 1,000,000 local steps since its last entry.
 #[derive(Drop)]
 pub struct Task {
     number: u32,
@@ -59,11 +59,14 @@ pub struct Task {
 }
 
 impl Model for Task {
+    ghost use Rattle.std.specs.Prelude.{◌≤◌};
     ghost use Rattle.task_code.specs.Tasks.{TaskNow};
 
     ghost Value = { TaskNow };
 
     ghost view = { λ t. record { number = t.number; which = t.which; spot = t.spot; held = t.frame; trace = t.trace } };
+
+    ghost invariant = { λ t. t.spot.steps ≤ 1000000 };
 }
 
 impl Task {
@@ -108,6 +111,7 @@ impl Task {
     pub fn advance(&mut self, code: &Code, limit: u32) -> Wish
         requires running { self.old.spot.ended ≡ false }
         requires task { IsSomeTask code.now self.old }
+        requires most { limit ≤ 1000000 }
         ensures task { (self.new.number ≡ self.old.number) × (self.new.which ≡ self.old.which) × (self.new.spot.ended ≡ false) }
         ensures trace { self.new.trace ≡ self.old.trace }
         ensures state { (P : tree.Program) (args : List Carried) (s : TaskState) → IsCodeOf P code.now → IsTaskOf P code.now args self.old s → IsTaskOf P code.now args self.new s }
@@ -126,7 +130,7 @@ impl Task {
     fn turn(&mut self, code: &Code) -> Option<Wish>
         requires running { self.old.spot.ended ≡ false }
         requires task { IsSomeTask code.now self.old }
-        requires few { self.old.spot.steps + 1 < 2 ^ 32 }
+        requires few { self.old.spot.steps < 1000000 }
         ensures { MatchOption result (Turned code.now self.old self.new) (λ w. (self.new ≡ self.old) × Told code.now self.old w) }
     {
         match code.instruction(self.which, self.spot.place) {

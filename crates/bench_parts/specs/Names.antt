@@ -1,0 +1,8 @@
+-- The names of the parts.
+use Rattle.std.specs.Prelude.{ℕ, List, codes}
+use Rattle.bench_parts.specs.declared.part.Part.{Part}
+use Rattle.bench_parts.specs.declared.part.Part.TheVariants as part
+
+-- the word by which a part is asked for
+abbrev pub name_of : Part → List ℕ
+name_of part.Plain = codes "plain"

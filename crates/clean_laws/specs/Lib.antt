@@ -1,0 +1,5 @@
+pub mod Closed
+pub mod Laws
+pub mod Rows
+pub mod Same
+pub mod Traces

@@ -1,0 +1,4 @@
+pub mod Completing
+pub mod Consuming
+pub mod Endings
+pub mod Naming

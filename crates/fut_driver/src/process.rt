@@ -1,0 +1,81 @@
+//! What the process is given, and how it ends.
+ghost use Rattle.std.specs.Prelude.{◌≡◌, true};
+ghost use Rattle.std.specs.Process.{exit_status};
+ghost use Rattle.fut_base.specs.Events.{events_of};
+ghost use Rattle.fut_driver.specs.declared.line.Line.{Line};
+ghost use Rattle.fut_driver.specs.Given.{Asked};
+ghost use Rattle.fut_driver.specs.Process.{EndsWith, HasWords, IsLineAnswer, IsLineOf, IsRefusal};
+ghost use Rattle.fut_driver.specs.Verdict.{Told};
+
+use crate::line::{Line, line_of};
+use crate::outcome::Outcome;
+use crate::status::{Ended, Status};
+use crate::top::forder;
+use fut_base::gate::Gate;
+use fut_base::ports::{Sink, Source, Wrote};
+use std::alloc::Global;
+use std::env::Args;
+use std::io;
+use std::process::ExitCode;
+
+/// Does what the command line asks for, and gives the number of the status. The first word is the program's name. Where a word is
+/// not UTF-8 the status is `Usage`, where there was no memory for the words it is `NoMemory`: then nothing is read, and the line of
+/// that status is written.
+pub fn carry_out<R, S: Source, K: Sink, G: Gate>(
+    rt: &R,
+    alloc: Global,
+    given: io::Result<Args>,
+    source: &mut S,
+    out: &mut K,
+    gate: &G,
+) -> ExitCode
+    ensures { (line : Line) × IsLineOf given line × EndsWith line
+        (λ words. record { may_run = true; words = words; left_before = S.left source.old; left_after = S.left source.new; ended = S.ended source.new; faults_before = S.faults source.old; faults_after = S.faults source.new })
+        (record { held_before = K.held out.old; held_after = K.held out.new; faults_before = K.faults out.old; faults_after = K.faults out.new })
+        (exit_status result) }
+{
+    let line = line_of(alloc, given);
+    let Ended { status, .. } = answer_line(rt, alloc, &line, source, out, gate);
+    ExitCode::from(status.number())
+}
+
+/// Does what the words of a command line ask for.
+pub fn answer_line<R, S: Source, K: Sink, G: Gate>(
+    rt: &R,
+    alloc: Global,
+    line: &Line,
+    source: &mut S,
+    out: &mut K,
+    gate: &G,
+) -> Ended
+    ensures answer { IsLineAnswer line.now
+        (λ words. record { may_run = true; words = words; left_before = S.left source.old; left_after = S.left source.new; ended = S.ended source.new; faults_before = S.faults source.old; faults_after = S.faults source.new })
+        (record { held_before = K.held out.old; held_after = K.held out.new; faults_before = K.faults out.old; faults_after = K.faults out.new })
+        result.status (events_of result.history) }
+
+    // Where it has no words nothing is read.
+    ensures unread { (HasWords line.now → ⊥) → source.new ≡ source.old }
+{
+    match line {
+        Line::Words(words) => forder(rt, alloc, words, source, out, gate),
+        Line::Foreign => refuse(alloc, Status::Usage, out),
+        Line::NoMemory => refuse(alloc, Status::NoMemory, out),
+    }
+}
+
+/// Writes the line of a status.
+fn refuse<K: Sink>(alloc: Global, status: Status, out: &mut K) -> Ended
+    ensures { IsRefusal
+        (record { held_before = K.held out.old; held_after = K.held out.new; faults_before = K.faults out.old; faults_after = K.faults out.new })
+        status result.status (events_of result.history) }
+{
+    let outcome = Outcome::bare(alloc, status);
+    let status = match outcome.write(out) {
+        Wrote::All => status,
+        Wrote::Failed => Status::WriteFault,
+    };
+    Ended {
+        status,
+        history: outcome.history,
+    }
+}

@@ -1,6 +1,0 @@
-pub mod Due
-pub mod Given
-pub mod Numbers
-pub mod Outcomes
-pub mod Reading
-pub mod Verdict
