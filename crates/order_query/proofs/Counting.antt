@@ -73,9 +73,9 @@ module _ (home : TableId) (me : Me (Unit {0}) View) (lists : Lists) (item : ℕ)
   pub shows_both : ShowBoth words_labelled (me.0.log ++ insert ∷ []) lists
   shows_both = record {
     english = shows_inserted me.0.words words_labelled english_word (λ (i : Insert). i.english) old.english lists.english me.0.log insert item c.item_is c.kept_old.first c.space_english c.english c.in_english
-    (λ y lt. labelled_else (english_word y) (λ e. omega (arith, e, lt)) (λ e. omega (arith, e, lt))) (english_at ∙ a_is) c.shown.english;
+        (λ y lt. labelled_else (english_word y) (λ e. omega (arith, e, lt)) (λ e. omega (arith, e, lt))) (english_at ∙ a_is) c.shown.english;
     hebrew = shows_inserted me.0.words words_labelled hebrew_word (λ (i : Insert). i.hebrew) old.hebrew lists.hebrew me.0.log insert item c.item_is c.kept_old.second c.space_hebrew c.hebrew c.in_hebrew
-    (λ y lt. labelled_else (hebrew_word y) (λ e. omega (arith, e, lt)) (λ e. omega (arith, e, lt))) (hebrew_at ∙ b_is) c.shown.hebrew;
+        (λ y lt. labelled_else (hebrew_word y) (λ e. omega (arith, e, lt)) (λ e. omega (arith, e, lt))) (hebrew_at ∙ b_is) c.shown.hebrew;
   }
 
   pub labelled_rise : AreRising words_labelled (me.0.log ++ insert ∷ [])

@@ -173,12 +173,14 @@ module _ (words : List ℕ) (side : ℕ) (l : Ordered) (w : Window) (items : Lis
 -- the items of a window in which labels were made anew
 abbrev pub items_of : (old new : Ordered) (x : ℕ) (w : Window) → HasMadeSpace old x (Some w) new → (items : List ℕ) × AreItemsOf new.order w items
 items_of old new x w m =
-    let window = m.labels_are.1.window in
-    (members old.labels old.order x window.size, record {
-      segment = subst (λ (o : List ℕ). IsSegment o (members old.labels old.order x window.size)) (sym m.order_is) window.segment;
-      first = ap (λ (v : Window). v.first.0) window.is;
-      count = ap (λ (v : Window). v.items) window.is;
-    })
+    let window = m.labels_are.1.window in (
+      members old.labels old.order x window.size,
+      record {
+        segment = subst (λ (o : List ℕ). IsSegment o (members old.labels old.order x window.size)) (sym m.order_is) window.segment;
+        first = ap (λ (v : Window). v.first.0) window.is;
+        count = ap (λ (v : Window). v.items) window.is;
+      },
+    )
 
 -- only labels of one side change where labels are put
 pub changes_side : (words : List ℕ) (side : ℕ) (labels items : List ℕ) → ChangesSide words side (set_labels words side labels items)

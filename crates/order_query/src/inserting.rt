@@ -184,8 +184,12 @@ impl Orders {
         ensures kept { AreKept writer.new.lists }
     {
         let windows = writer.lists.make_space(after_e, after_h);
-        writer.version =
-            self.show_windows(&mut writer.seat, &writer.lists, writer.version, windows);
+        writer.version = self.show_windows(
+            &mut writer.seat,
+            &writer.lists,
+            writer.version,
+            windows,
+        );
         let item = writer.lists.insert(after_e, after_h);
         self.show_item::<N>(&mut writer.seat, &writer.lists, item);
         item

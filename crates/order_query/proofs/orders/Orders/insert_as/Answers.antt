@@ -16,7 +16,7 @@ show_windows-writer-inside-requires-clause-may g c =
     let home = ap (λ (w : Writing). w.home) c.writer.view_is ∙ c.requires.home in
     let x_in = subst (λ (w : Writing). x < length w.lists.english.order) (sym c.writer.view_is) c.requires.e_in in
     let y_in = subst (λ (w : Writing). y < length w.lists.hebrew.order) (sym c.writer.view_is) c.requires.h_in in
-    let room = subst (λ (w : Writing). 1 ≤ w.lists.english.room) (sym c.writer.view_is) c.requires.room  in (
+    let room = subst (λ (w : Writing). 1 ≤ w.lists.english.room) (sym c.writer.view_is) c.requires.room in (
       old,
       x,
       y,
