@@ -30,7 +30,15 @@ pub fn carry_out<R, S: Source, K: Sink, G: Gate>(
     gate: &G,
 ) -> ExitCode
     ensures { (line : Line) × IsLineOf given line × EndsWith line
-        (λ words. record { may_run = true; words = words; left_before = S.left source.old; left_after = S.left source.new; ended = S.ended source.new; faults_before = S.faults source.old; faults_after = S.faults source.new })
+        (λ words. record {
+          may_run = true;
+          words = words;
+          left_before = S.left source.old;
+          left_after = S.left source.new;
+          ended = S.ended source.new;
+          faults_before = S.faults source.old;
+          faults_after = S.faults source.new;
+        })
         (record { held_before = K.held out.old; held_after = K.held out.new; faults_before = K.faults out.old; faults_after = K.faults out.new })
         (exit_status result) }
 {
@@ -49,7 +57,15 @@ pub fn answer_line<R, S: Source, K: Sink, G: Gate>(
     gate: &G,
 ) -> Ended
     ensures answer { IsLineAnswer line.now
-        (λ words. record { may_run = true; words = words; left_before = S.left source.old; left_after = S.left source.new; ended = S.ended source.new; faults_before = S.faults source.old; faults_after = S.faults source.new })
+        (λ words. record {
+          may_run = true;
+          words = words;
+          left_before = S.left source.old;
+          left_after = S.left source.new;
+          ended = S.ended source.new;
+          faults_before = S.faults source.old;
+          faults_after = S.faults source.new;
+        })
         (record { held_before = K.held out.old; held_after = K.held out.new; faults_before = K.faults out.old; faults_after = K.faults out.new })
         result.status (events_of result.history) }
 
