@@ -6,3 +6,6 @@ use Rattle.bench_parts.specs.declared.part.Part.TheVariants as part
 -- the word by which a part is asked for
 abbrev pub name_of : Part → List ℕ
 name_of part.Plain = codes "plain"
+name_of part.Pool = codes "pool"
+name_of part.Work = codes "work"
+name_of part.Long = codes "long"

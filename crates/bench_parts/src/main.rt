@@ -5,13 +5,22 @@
 #![tactic(auto)]
 
 mod part;
-mod plain;
+mod tree;
 
 use crate::part::{Part, part_of};
+use crate::tree::{Tree, done_alone, done_by_workers};
+use fut_base::list::NoMemory;
+use std::alloc::Global;
 use std::process::ExitCode;
+use std::sync::Wait;
+use std::thread::Threads;
 use std::{env, io};
 
+// The steps of a job that works for about a microsecond.
+const STEPS: u32 = 400;
+
 /// What the words ask for.
+#[derive(Drop)]
 struct Asked {
     part: Part,
     count: u32,
@@ -33,21 +42,38 @@ fn words_of<R: env::Env + AllocGlobal>(rt: &R) -> Option<Asked> {
     })
 }
 
+// The tree of jobs that a part does.
+fn tree_of(alloc: Global, part: Part, count: u32) -> Tree {
+    let (jobs, steps) = match part {
+        Part::Plain | Part::Pool => (count, 0),
+        Part::Work => (count, STEPS),
+        Part::Long => (1, count.saturating_mul(STEPS)),
+    };
+    Tree { alloc, jobs, steps }
+}
+
+// How many jobs of a part were done.
+fn done_of<R: Threads + Wait + Sync>(
+    rt: &R,
+    alloc: Global,
+    asked: &Asked,
+) -> Result<u32, NoMemory> {
+    let tree = tree_of(alloc, asked.part, asked.count);
+    match asked.part {
+        Part::Plain => done_alone(&tree),
+        Part::Pool | Part::Work | Part::Long => done_by_workers(rt, &tree, asked.threads),
+    }
+}
+
 fn main(rt: HostRuntime) -> io::Result<ExitCode> {
-    let Some(
-        Asked {
-            part,
-            count,
-            threads,
-        },
-    ) = words_of(&rt)
-    else {
+    let Some(asked) = words_of(&rt) else {
         println!(rt; "usage: bench_parts PART COUNT THREADS")?;
         return Ok(ExitCode::from(9));
     };
-    let done = match part {
-        Part::Plain => plain::deque_loop(rt.alloc(), count),
+    let Ok(done) = done_of(&rt, rt.alloc(), &asked) else {
+        println!(rt; "no memory")?;
+        return Ok(ExitCode::from(8));
     };
-    println!(rt; "{done} {threads}")?;
+    println!(rt; "{done}")?;
     Ok(ExitCode::from(0))
 }

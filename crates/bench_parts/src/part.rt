@@ -5,8 +5,14 @@ ghost use Rattle.bench_parts.specs.Names.{name_of};
 /// A part that can be measured.
 #[derive(Clone, Copy, Debug, PartialEq, Eq)]
 pub enum Part {
-    /// Jobs through a `VecDeque`, without a pool.
+    /// A tree of jobs that do nothing, through a `VecDeque`, without a pool.
     Plain,
+    /// The same tree on a pool.
+    Pool,
+    /// A tree of jobs that work for about a microsecond each, on a pool.
+    Work,
+    /// One job that works for a long time, about a microsecond for each of the count, on a pool whose other workers have none.
+    Long,
 }
 
 /// The part of this name.
@@ -15,6 +21,9 @@ pub fn part_of(name: &str) -> Option<Part>
 {
     match name {
         "plain" => Some(Part::Plain),
+        "pool" => Some(Part::Pool),
+        "work" => Some(Part::Work),
+        "long" => Some(Part::Long),
         _ => None,
     }
 }

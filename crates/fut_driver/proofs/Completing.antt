@@ -22,39 +22,13 @@ use Rattle.command_words.specs.Asking.{most_bytes}
 use Rattle.fut_driver.specs.Given.{Asked, Asks}
 use Rattle.fut_driver.specs.Verdict.{Told, IsRead, IsWellTypedText, IsIllTypedText, IsRefusedRecord, GaveTooMuch, IsGiven, IsOfHistory, IsVerdict, IsFit, IsUnhindered, AsksHistory, IsFree}
 use Rattle.command_words.proofs.Wording.{one_command}
+use Rattle.fut_driver.proofs.Coming.{no_syntax, no_type_fault}
+use Rattle.fut_driver.proofs.Consuming.{all_left, not_longer}
 
 -- ---- what was read
 
--- what was read up to the end is all that was left
-all_left : (old new : Option (List ℕ)) (bytes left : List ℕ) → old ≡ Some left → Consumes old new bytes → IsAtEnd new → bytes ≡ left
-all_left None new bytes left is taken end = absurd (cc)
-all_left (Some ks) None bytes left is taken end = absurd taken
-all_left (Some ks) (Some rest) bytes left is taken end =
-    let same : ks ≡ left = cc in
-    sym (append-nil bytes) ∙ (ap (λ r. bytes ++ r) (sym end) ∙ (sym taken ∙ same))
-
--- what was taken is no longer than what was left
-not_longer : (old new : Option (List ℕ)) (bytes left : List ℕ) → old ≡ Some left → Consumes old new bytes → length bytes ≤ length left
-not_longer None new bytes left is taken = absurd (cc)
-not_longer (Some ks) None bytes left is taken = absurd taken
-not_longer (Some ks) (Some rest) bytes left is taken =
-    let same : ks ≡ left = cc in
-    omega (arith, ap length same, ap length taken, length-append bytes rest)
-
 read_is : (a : Asked) (t : Told) (u : IsUnhindered a t) (c : Command) (bytes : List ℕ) → IsRead a c bytes → bytes ≡ u.bytes
 read_is a t u c bytes read = all_left a.left_before a.left_after bytes u.bytes u.left read.taken read.nothing_left
-
--- ---- texts
-
--- a text that is a well-typed program has no fault place
-no_syntax : (text : List ℕ) (P : tree.Program) (place : Place) → IsWellTypedText text P → IsFaultPlace text place → ⊥
-no_syntax text P place typed fault = no_faulty_program text place P fault typed.program
-
--- and no first fault
-no_fault : (text : List ℕ) (P : tree.Program) (number : ℕ) (place : Place) → IsWellTypedText text P → IsIllTypedText text number place → ⊥
-no_fault text P number place typed ill =
-    let same : ill.tree ≡ P = one_program text ill.tree P ill.program typed.program in
-    subst (IsAmong ill.fault) (ap faults_of same ∙ typed.well_typed) ill.first.among
 
 -- ---- what fits
 
@@ -110,7 +84,7 @@ complete a t (status.Syntax line column) h text (c, v) u =
     absurd (no_syntax v.holds.0 typed.0 (record { line = line; column = column }) typed.1 v.holds.2)
 complete a t (status.IllTyped rule line column) h text (c, v) u =
     let typed = text_typed a t u c v.bytes v.holds.0 v.words v.read v.holds.1 in
-    absurd (no_fault v.holds.0 typed.0 rule (record { line = line; column = column }) typed.1 v.holds.2)
+    absurd (no_type_fault v.holds.0 typed.0 rule (record { line = line; column = column }) typed.1 v.holds.2)
 complete a t (status.NotLegal entry) h text v u = absurd (not_refused v.bytes entry (command_fit a t u command.Replay v.bytes v.words v.read) v.holds)
 complete a t (status.NotRun byte) h text v u = absurd (is_a_run v.bytes byte (command_fit a t u command.Replay v.bytes v.words v.read) v.holds)
 complete a t status.ReadFault h text v u = absurd (u.source_quiet v.4)

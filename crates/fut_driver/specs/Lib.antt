@@ -1,5 +1,7 @@
+pub mod Clean
 pub mod Due
 pub mod Given
+pub mod Laws
 pub mod Numbers
 pub mod Outcomes
 pub mod Process

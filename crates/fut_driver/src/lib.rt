@@ -6,9 +6,11 @@
 //! the number that the process ends with.
 #![tactic(auto)]
 
+pub mod clean;
 mod gathered;
 mod input;
 mod judge;
+pub mod laws;
 pub mod line;
 mod outcome;
 pub mod process;

@@ -29,8 +29,8 @@ use Rattle.task_types.proofs.Running.{children_fit}
 use Rattle.run_laws.specs.Laws.{HasCells}
 use Rattle.run_laws.proofs.Typed.{well_typed_has_cells}
 use Rattle.run_laws.proofs.Stuck.{AccessesBelow, wish_below}
-use Rattle.run_record.specs.Records.{IsAction, AreEvents, AreRaces}
-use Rattle.run_check.specs.Within.{IsNumbered, AreNumbered, AcceptedAreWithin}
+use Rattle.run_record.specs.Records.{IsAny, IsActionWith, IsAction, AreNumbered, AreEvents, AreRaces}
+use Rattle.run_check.specs.Within.{AcceptedAreWithin}
 
 or_right : (a b : Bool) → (a || b) ≡ false → b ≡ false
 or_right true b h = absurd (let e : true ≡ false = h in cc)
@@ -94,11 +94,11 @@ short_by (Syncs _) few = tt
 short_by (Gets _ _ _) few = tt
 short_by (Ends _) few = tt
 
-action_within : (a : Action) → IsNumbered a → IsShort a → IsAction a
+action_within : (a : Action) → IsActionWith IsAny a → IsShort a → IsAction a
 action_within (Reads _ _) k s = k
 action_within (Writes _ _) k s = k
-action_within (Spawns _ _ _ _ _) (code, child, kid, cont, args) s = (code, child, kid, cont, s, args)
-action_within (Creates _ _ _ _ _) (code, child, kid, cont, args) s = (code, child, kid, cont, s, args)
+action_within (Spawns _ _ _ _ _) (code, child, kid, cont, any, args) s = (code, child, kid, cont, s, args)
+action_within (Creates _ _ _ _ _) (code, child, kid, cont, any, args) s = (code, child, kid, cont, s, args)
 action_within (Syncs _) k s = k
 action_within (Gets _ _ _) k s = k
 action_within (Ends _) k s = k

@@ -1,0 +1,110 @@
+-- What is answered depends on the command alone.
+use Rattle.std.proofs.Common.{◌≡◌, ℕ, Bool, true, false, List, [], ◌∷◌, codes, inl, inr, refl, sym, subst}
+use Rattle.fut_base.specs.declared.event.Event.{Event}
+use Rattle.command_words.specs.declared.options.Choice.{Choice}
+use Rattle.command_words.specs.declared.options.Choice.TheVariants as choice
+use Rattle.command_words.specs.declared.words.Command.{Command}
+use Rattle.command_words.specs.declared.words.Command.TheVariants as command
+use Rattle.command_words.specs.Asking.{MayStand, EachMayStand, AreOptions, AreWordsOf, most_bytes}
+use Rattle.command_words.proofs.Wording.{one_command}
+use Rattle.fut_driver.specs.declared.status.Status.{Status}
+use Rattle.fut_driver.specs.declared.status.Status.TheVariants as status
+use Rattle.fut_driver.specs.Due.{syntax_text, type_text, not_legal_text, not_run_text}
+use Rattle.fut_driver.specs.Given.{Asked, Asks}
+use Rattle.fut_driver.specs.Laws.{with_words, CommandDecides, RunIsSerial}
+use Rattle.fut_driver.specs.Verdict.{IsRead, GaveTooMuch, IsOfHistory, IsOfBytes, IsVerdict}
+
+module _ (a : Asked) (may_run : Bool) (words : List (List ℕ)) where
+  read_so : (c : Command) (bytes : List ℕ) → IsRead a c bytes → IsRead (with_words a may_run words) c bytes
+  read_so c bytes r = record { short = r.short; taken = r.taken; nothing_left = r.nothing_left; ended = r.ended; quiet = r.quiet }
+
+  gave_so : (most : ℕ) → GaveTooMuch a most → GaveTooMuch (with_words a may_run words) most
+  gave_so most g = record { bytes = g.bytes; long = g.long; taken = g.taken; quiet = g.quiet }
+
+  module _ (c : Command) (asks : Asks a c) (others : AreWordsOf may_run words c) where
+    asks_so : (d : Command) → Asks a d → AreWordsOf may_run words d
+    asks_so d x = subst (AreWordsOf may_run words) (one_command a.may_run a.words c d asks x) others
+
+    history_so : (s : Status) (h : List Event) (text : List ℕ) → IsOfHistory a s h text → IsOfHistory (with_words a may_run words) s h text
+    history_so s h text (inl v) = inl (record {
+      bound = v.bound;
+      brief = v.brief;
+      words = asks_so (command.Run v.bound v.brief) v.words;
+      bytes = v.bytes;
+      read = read_so (command.Run v.bound v.brief) v.bytes v.read;
+      tree = v.tree;
+      program = v.program;
+      races = v.races;
+      end = v.end;
+      cells = v.cells;
+      ends = v.ends;
+      is_due = v.is_due;
+      replayed = v.replayed;
+    })
+    history_so s h text (inr v) = inr (record {
+      words = asks_so command.Replay v.words;
+      bytes = v.bytes;
+      read = read_so command.Replay v.bytes v.read;
+      tree = v.tree;
+      races = v.races;
+      end = v.end;
+      good = v.good;
+      says = v.says;
+      is_due = v.is_due;
+    })
+
+    bytes_so : (d : Command) (h : List Event) (text due : List ℕ) (Holds : List ℕ → Type 0) → IsOfBytes a d h text due Holds → IsOfBytes (with_words a may_run words) d h text due Holds
+    bytes_so d h text due Holds v = record {
+      words = asks_so d v.words;
+      no_run = v.no_run;
+      is_due = v.is_due;
+      bytes = v.bytes;
+      read = read_so d v.bytes v.read;
+      holds = v.holds;
+    }
+
+    verdict_so : (s : Status) (h : List Event) (text : List ℕ) → IsVerdict a s h text → IsVerdict (with_words a may_run words) s h text
+    verdict_so status.Clean h text v = history_so status.Clean h text v
+    verdict_so status.Raced h text v = history_so status.Raced h text v
+    verdict_so (status.Spent end) h text v = history_so (status.Spent end) h text v
+    verdict_so status.Accepted h text v = bytes_so command.Check h text text _ v
+    verdict_so (status.Syntax line column) h text (d, v) = (d, bytes_so d h text (syntax_text line column) _ v)
+    verdict_so (status.IllTyped rule line column) h text (d, v) = (d, bytes_so d h text (type_text rule line column) _ v)
+    verdict_so (status.NotLegal entry) h text v = bytes_so command.Replay h text (not_legal_text entry) _ v
+    verdict_so (status.NotRun byte) h text v = bytes_so command.Replay h text (not_run_text byte) _ v
+    verdict_so status.TooLong h text ((d, x, gave), none, due) = ((d, asks_so d x, gave_so (most_bytes d) gave), none, due)
+    verdict_so status.ReadFault h text ((d, x), none, due, less, rose) = ((d, asks_so d x), none, due, less, rose)
+    verdict_so status.NoMemory h text v = v
+    verdict_so status.Usage h text v = absurd (v.0 c asks)
+    verdict_so status.WriteFault h text v = absurd v
+
+pub command_decides : CommandDecides
+command_decides a may_run words c s h text asks others v = verdict_so a may_run words c asks others s h text v
+
+-- ---- the options of `serial` are options of `run`
+
+may_stand : (c : Choice) → MayStand false c → MayStand true c
+may_stand (choice.Events n) may = may
+may_stand choice.Brief may = may
+may_stand choice.Workers may = refl
+
+each_may_stand : (cs : List Choice) → EachMayStand false cs → EachMayStand true cs
+each_may_stand [] each = tt
+each_may_stand (c ∷ cs) each = (may_stand c each.0, each_may_stand cs each.1)
+
+run_options : (words : List (List ℕ)) (bound : ℕ) (brief : Bool) → AreOptions false words bound brief → AreOptions true words bound brief
+run_options words bound brief o = record {
+  choices = o.choices;
+  written = o.written;
+  allowed = each_may_stand o.choices o.allowed;
+  once = o.once;
+  bound = o.bound;
+  brief_is = o.brief_is;
+}
+
+pub run_is_serial : RunIsSerial
+run_is_serial a options bound brief s h text is o =
+    let c = command.Run bound brief in
+    let serial : Asks a c = inl (options, is, o) in
+    let run : AreWordsOf true (codes "run" ∷ options) c = inr (options, refl, refl, run_options options bound brief o) in
+    (command_decides a true (codes "run" ∷ options) c s h text serial run, command_decides (with_words a true (codes "run" ∷ options)) a.may_run a.words c s h text run serial)
