@@ -1,5 +1,5 @@
 -- The words after an insert.
-use Rattle.std.proofs.Common.{◌≡◌, ◌≢◌, ℕ, ◌+◌, ◌*◌, ◌<◌, List, [], ◌∷◌, ◌++◌, ◌⊎◌, inl, inr, length, map, sym, ◌∙◌, subst, refl, ap, arith, get_or-set_same, get_or-set_other, length-set}
+use Rattle.std.proofs.Common.{◌≡◌, ◌≢◌, ℕ, ◌+◌, ◌<◌, List, [], ◌∷◌, ◌++◌, inl, inr, length, map, sym, ◌∙◌, subst, ap, arith, get_or-set_same, get_or-set_other, length-set}
 use Rattle.std.specs.Prelude.{slice_index, slice_set}
 use Rattle.std.proofs.lemmas.List.{map-append, length-map}
 use Rattle.std.proofs.Math.ListN.{get_or-append}
@@ -12,9 +12,9 @@ use Rattle.order_list.proofs.Inserting.{grown_by_one}
 use Rattle.order_list.proofs.Relabelling.{gets_middle}
 use Rattle.order_query.specs.declared.view.Insert.{Insert}
 use Rattle.order_query.specs.declared.view.View.{View}
-use Rattle.order_query.specs.Logs.{order_of, AreRising, english_of, hebrew_of, english_word, hebrew_word}
+use Rattle.order_query.specs.Logs.{order_of, AreRising, english_word, hebrew_word}
 use Rattle.order_query.specs.Reading.{Shows, ShowBoth}
-use Rattle.order_query.specs.Showing.{MayCount}
+use Rattle.order_query.specs.Showing.{with_words, MayCount}
 use Rattle.order_query.proofs.Growing.{grown_append, below_or}
 use Rattle.order_query.proofs.Writing.{shown_rise}
 
@@ -45,6 +45,12 @@ shows_inserted words after word f old new log insert item item_is kept space i x
     | inr same ↦ subst (λ (k : ℕ). slice_index after (word k) ≡ slice_index new.labels k) same at_item
   ];
 }
+
+-- what the writer knows after two stores
+pub stored_twice : (me s1 s2 : Me (Unit {0}) View) (i j a b : ℕ) → s1 ≡ (with_words me.0 (slice_set me.0.words i a), []) → s2 ≡ (with_words s1.0 (slice_set s1.0.words j b), []) → s2 ≡ (with_words me.0 (slice_set (slice_set me.0.words i a) j b), [])
+stored_twice me s1 s2 i j a b e1 e2 =
+    let store : Me (Unit {0}) View → Me (Unit {0}) View = λ m. (with_words m.0 (slice_set m.0.words j b), []) in
+    e2 ∙ ap store e1
 
 module _ (home : TableId) (me : Me (Unit {0}) View) (lists : Lists) (item : ℕ) (insert : Insert) (old : Lists) (c : MayCount home me lists item insert old) (a b : ℕ) (a_is : a ≡ slice_index lists.english.labels item) (b_is : b ≡ slice_index lists.hebrew.labels item) where
   abbrev first : List ℕ

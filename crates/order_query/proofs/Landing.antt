@@ -1,5 +1,5 @@
 -- What the writer keeps from one insert to the next.
-use Rattle.std.proofs.Common.{◌≡◌, ◌≢◌, ℕ, zero, suc, ◌+◌, ◌-◌, ◌*◌, ◌%◌, ◌^◌, ◌<◌, ◌≤◌, true, false, List, [], ◌∷◌, ◌++◌, length, length-append, map, sym, ◌∙◌, subst, refl, ap, arith}
+use Rattle.std.proofs.Common.{◌≡◌, ◌≢◌, ℕ, zero, suc, ◌+◌, ◌-◌, ◌*◌, ◌%◌, ◌<◌, ◌≤◌, true, List, [], ◌∷◌, ◌++◌, length, length-append, map, sym, ◌∙◌, subst, refl, ap, arith}
 use Rattle.std.specs.Prelude.{slice_index}
 use Rattle.std.proofs.lemmas.List.{map-append, length-map, length-replicate}
 use lib.ListN.{get_elem?}
@@ -7,12 +7,11 @@ use mathlib.Core.Option.{some, some-ne-none}
 use Rattle.atomic_table.specs.Table.{Me, opening}
 use Rattle.atomic_table.specs.Seated.{TableId}
 use Rattle.order_list.specs.declared.place.Windows.{Windows}
-use Rattle.order_list.specs.Ordered.{Ordered}
 use Rattle.order_list.specs.Labels.{HasMadeSpace, HasInserted}
 use Rattle.order_list.specs.Sides.{Lists, AreKept}
 use Rattle.order_query.specs.declared.view.Insert.{Insert}
 use Rattle.order_query.specs.declared.view.View.{View}
-use Rattle.order_query.specs.Logs.{IsLog, AreEarlier, afters_english, afters_hebrew}
+use Rattle.order_query.specs.Logs.{IsLog, AreEarlier}
 use Rattle.order_query.specs.Plays.{first_words, first_writer}
 use Rattle.order_query.specs.Reading.{ShowBoth, IsWriting}
 use Rattle.order_query.specs.Rule.{OrderRule, IsReader}

@@ -1,10 +1,10 @@
 -- Labels that strictly rise along a list tell its order.
-use Rattle.std.proofs.Common.{◌≡◌, ◌≢◌, ℕ, ◌+◌, ◌<◌, ◌≤◌, Bool, true, false, List, [], ◌∷◌, ◌⊎◌, inl, inr, sym, ◌∙◌, subst, refl, ap, arith}
+use Rattle.std.proofs.Common.{◌≡◌, ◌≢◌, ℕ, ◌+◌, ◌<◌, ◌≤◌, true, false, List, [], ◌∷◌, inl, inr, sym, ◌∙◌, subst, refl, ap, arith}
 use Rattle.std.specs.Prelude.{◌==◌, nat_lt}
 use Rattle.std.proofs.lemmas.Bool.Decides.{nat_tests}
-use Rattle.order_list.specs.Ordered.{is_in, put_after, stands_before}
+use Rattle.order_list.specs.Ordered.{is_in, put_after}
 use Rattle.order_list.proofs.Chains.{tested, eq_of}
-use Rattle.order_list.proofs.Inserting.{in_rest, head_in, apart}
+use Rattle.order_list.proofs.Inserting.{apart}
 use Rattle.order_query.specs.Logs.{grown, order_of, StrictlyRise}
 use Rattle.order_query.proofs.Growing.{TellOrder, before_skip, in_skip, in_put, zero_below}
 

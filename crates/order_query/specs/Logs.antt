@@ -63,4 +63,5 @@ pub record AreRising (words : List ℕ) (log : List Insert) : Type 0 where
 -- later inserts keep the order of the items that were there, in both lists
 abbrev pub OrdersStay : Type 0
 OrdersStay = (log start : List Insert) → StartsWith log start → (x y : ℕ) → x < count_of start → y < count_of start
-    → (stands_before x y (english_of log) ≡ stands_before x y (english_of start)) × (stands_before x y (hebrew_of log) ≡ stands_before x y (hebrew_of start))
+    → (stands_before x y (english_of log) ≡ stands_before x y (english_of start))
+    × (stands_before x y (hebrew_of log) ≡ stands_before x y (hebrew_of start))

@@ -1,5 +1,6 @@
 -- What each kind of step changes and tells.
-use Rattle.std.specs.Prelude.{◌≡◌, ℕ, ◌%◌, ◌^◌, ◌==◌, nat_lt, true, false, if◌then◌else◌, List, [], ◌∷◌, ◌++◌, length, slice_set, replicate}
+use Rattle.std.specs.Prelude.{◌≡◌, ℕ, ◌%◌, ◌^◌, ◌==◌, nat_lt, true, false, if◌then◌else◌, List, [], ◌∷◌, ◌++◌}
+use Rattle.std.specs.Prelude.{length, slice_set, replicate}
 use Rattle.atomic_table.specs.Table.{Me, Step}
 use Rattle.order_query.specs.declared.view.Insert.{Insert}
 use Rattle.order_query.specs.declared.view.Snapshot.{Snapshot}

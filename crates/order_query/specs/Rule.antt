@@ -77,4 +77,5 @@ pub record MayWrite (words : List ℕ) (log : List Insert) (after : List ℕ) (l
   pub published : IsPublished after longer
   pub starts : StartsWith longer log
   pub version : slice_index words 0 ≤ slice_index after 0
-  pub steady : slice_index words 0 ≡ slice_index after 0 → slice_index words 0 % 2 ≡ 0 → (w : ℕ) → 2 ≤ w → w < 2 * length log + 4 → slice_index after w ≡ slice_index words w
+  pub steady : slice_index words 0 ≡ slice_index after 0 → slice_index words 0 % 2 ≡ 0
+      → (w : ℕ) → 2 ≤ w → w < 2 * length log + 4 → slice_index after w ≡ slice_index words w

@@ -1,5 +1,6 @@
 //! What the writer does with the words.
-ghost use Rattle.std.specs.Prelude.{◌≡◌, ◌≢◌, ℕ, ◌+◌, ◌*◌, ◌%◌, ◌<◌, ◌≤◌, true, List, [], ◌∷◌, ◌++◌, None, length, slice_index, slice_set};
+ghost use Rattle.std.specs.Prelude.{◌≡◌, ◌≢◌, ℕ, ◌+◌, ◌*◌, ◌%◌, ◌<◌, ◌≤◌, true, List, [], ◌∷◌, ◌++◌, None};
+ghost use Rattle.std.specs.Prelude.{length, slice_index, slice_set};
 ghost use Rattle.order_list.specs.declared.place.Place.TheVariants.{Relabel};
 ghost use Rattle.order_list.specs.Ordered.{Ordered, IsKept};
 ghost use Rattle.order_list.specs.Labels.{place_of, HasMadeSpace, HasInserted};

@@ -1,4 +1,4 @@
-//! A reader that tells sides.
+//! A reader as a judge.
 ghost use Rattle.std.specs.Prelude.{◌≡◌};
 
 use crate::orders::Orders;
@@ -7,7 +7,8 @@ use order_list::{Item, Judge, Moved, Sides};
 use std::marker::Brand;
 use std::sync::ledger::Blank;
 
-/// A reader with its orders.
+/// A reader with its orders, for code that asks any judge. A caller makes it in place, and knows after its end that the
+/// reader knows the same items: what it keeps as a judge, its `Home`, says which reader it was lent.
 #[derive(Drop)]
 pub struct Live<'a> {
     pub orders: &'a Orders,
@@ -17,10 +18,9 @@ pub struct Live<'a> {
 
 impl<'a> Judge for Live<'a> {
     ghost use Rattle.std.specs.Prelude.{true};
-    ghost use Rattle.order_query.specs.Logs.{english_of, hebrew_of};
-    ghost use Rattle.order_query.specs.Logs.{count_of};
+    ghost use Rattle.order_query.specs.Logs.{english_of, hebrew_of, count_of};
 
-    // Of which no value is made: the orders, and which reader is lent.
+    // Of which no value is made: the orders, and the name of the borrow of the reader.
     type Home = (Orders, u64);
 
     ghost known = { λ l. count_of l.reader.now.log };

@@ -1,10 +1,10 @@
-use Rattle.std.proofs.Common.{◌≡◌, ℕ, ◌+◌, ◌*◌, ◌≤◌, List, [], ◌∙◌, length, sym, subst, ap, arith, Option, Some, None}
+use Rattle.std.proofs.Common.{◌≡◌, ℕ, ◌+◌, ◌*◌, ◌≤◌, List, [], ◌∙◌, length, sym, subst, ap, arith, Option, Some}
 use Rattle.order_list.specs.declared.place.Window.{Window}
 use Rattle.order_list.specs.Ordered.{Ordered}
 use Rattle.order_list.specs.Labels.{HasMadeSpace}
 use Rattle.order_query.specs.Reading.{Shows}
 use Rattle.order_query.specs.Showing.{word_of, with_words, ChangesSide}
-use Rattle.order_query.proofs.Puts.{items_of, changes_side, changes_none, shows_window, shows_none, words_now}
+use Rattle.order_query.proofs.Puts.{items_of, changes_side, shows_window, words_now}
 use Rattle.order_query.proofs.orders.Orders.show.Goals as goal
 
 made_some : (old : Ordered) (x : ℕ) (window : Option Window) (w : Window) (new : Ordered) → window ≡ Some w → HasMadeSpace old x window new → HasMadeSpace old x (Some w) new

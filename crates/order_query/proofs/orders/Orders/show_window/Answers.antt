@@ -1,4 +1,4 @@
-use Rattle.std.proofs.Common.{ℕ, ◌+◌, ◌*◌, ◌%◌, ◌<◌, List, [], ◌∙◌, sym, subst, refl, ap, arith}
+use Rattle.std.proofs.Common.{ℕ, ◌+◌, ◌%◌, List, [], ◌∙◌, sym, subst, refl, ap, arith}
 use Rattle.std.specs.Prelude.{slice_set}
 use Rattle.atomic_table.specs.Table.{Me}
 use Rattle.order_query.specs.declared.view.View.{View}

@@ -1,14 +1,11 @@
-use Rattle.std.proofs.Common.{◌≡◌, ◌<◌, ℕ, List, [], ◌∷◌, ◌++◌, ◌∙◌, sym, subst, ap, arith, append_assoc, IfOk}
-use Rattle.std.specs.Prelude.{nat_lt}
+use Rattle.std.proofs.Common.{ℕ, List, [], ◌∷◌, ◌++◌, ◌∙◌, sym, subst, ap, arith, append_assoc, IfOk}
 use Rattle.std.specs.declared.result.Result.{Result}
 use Rattle.atomic_table.specs.Table.{Me}
 use Rattle.order_list.specs.declared.judge.Sides.{Sides}
 use Rattle.order_list.specs.declared.judge.Moved.{Moved}
 use Rattle.order_list.specs.Sides.{AreSides}
-use Rattle.order_query.specs.declared.view.Insert.{Insert}
 use Rattle.order_query.specs.declared.view.View.{View}
-use Rattle.order_query.specs.Logs.{english_of, hebrew_of, english_word, hebrew_word, count_of}
-use Rattle.order_query.specs.Plays.{after_label, IsMoment}
+use Rattle.order_query.specs.Logs.{english_of, hebrew_of}
 use Rattle.order_query.specs.Reading.{Reading, AreSidesFrom}
 use Rattle.order_query.proofs.Starts.{starts_self}
 use Rattle.order_query.proofs.Asking.{asked_sides}
