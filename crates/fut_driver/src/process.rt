@@ -13,14 +13,15 @@ use crate::status::{Ended, Status};
 use crate::top::forder;
 use fut_base::gate::Gate;
 use fut_base::ports::{Sink, Source, Wrote};
+use fut_base::record::History;
 use std::alloc::Global;
 use std::env::Args;
 use std::io;
 use std::process::ExitCode;
 
 /// Does what the command line asks for, and gives the number of the status. The first word is the program's name. Where a word is
-/// not UTF-8 the status is `Usage`, where there was no memory for the words it is `NoMemory`: then nothing is read, and the line of
-/// that status is written.
+/// not UTF-8 the status is `Usage`, and the line of that status is written; where there was no memory for the words it is `NoMemory`, and
+/// nothing is written. In both cases nothing is read.
 pub fn carry_out<R, S: Source, K: Sink, G: Gate>(
     rt: &R,
     alloc: Global,
@@ -75,7 +76,10 @@ pub fn answer_line<R, S: Source, K: Sink, G: Gate>(
     match line {
         Line::Words(words) => forder(rt, alloc, words, source, out, gate),
         Line::Foreign => refuse(alloc, Status::Usage, out),
-        Line::NoMemory => refuse(alloc, Status::NoMemory, out),
+        Line::NoMemory => Ended {
+            status: Status::NoMemory,
+            history: History::make(alloc),
+        },
     }
 }
 
