@@ -1,6 +1,6 @@
 -- Code that others are put behind does what it did.
-use Rattle.std.proofs.Common.{◌≡◌, ℕ, zero, suc, ◌-◌, ◌<◌, ◌≤◌, List, [], ◌∷◌, ◌++◌, length, drop, get_or, refl, sym, ap, ◌∙◌, subst, arith, append_assoc}
-use Rattle.std.specs.Prelude.{Some, slice_get, Result, Ok, Err, IfOk}
+use Rattle.std.proofs.Common.{◌≡◌, ℕ, zero, suc, ◌+◌, ◌-◌, ◌<◌, ◌≤◌, List, [], ◌∷◌, ◌++◌, length, drop, get_or, refl, sym, ap, ◌∙◌, subst, arith, append_assoc, length-append}
+use Rattle.std.specs.Prelude.{Some, slice_get, Result, Ok, Err, IfOk, OnOk}
 use Rattle.std.proofs.lemmas.List.{append-nil}
 use Rattle.fut_base.specs.declared.list.NoMemory.{NoMemory}
 use Rattle.fut_syntax.specs.declared.tree.Stmt.{Stmt}
@@ -9,6 +9,7 @@ use Rattle.fut_syntax.specs.Views.{stmt_tree, block_tree}
 use Rattle.task_frame.specs.declared.term.Term.{Term}
 use Rattle.task_frame.specs.declared.instruction.Instruction.{Instruction}
 use Rattle.task_frame.specs.declared.instruction.Instruction.TheVariants.{Branch}
+use Rattle.task_code.specs.Serving.{instructions_for, instructions_in}
 use Rattle.task_code.specs.Flat.{Place, MeansExpr, Stands, DoesStmt, DoesBlock, DoesTail, Grows}
 
 get_more : (code more : List Instruction) (place : ℕ) (i : Instruction) → slice_get code place ≡ Some i → slice_get (code ++ more) place ≡ Some i
@@ -80,14 +81,16 @@ if_added g s e b t test next then otherwise c0 c1 c2 c3 (Ok at) is means x y p =
     )
 if_added g s e b t test next then otherwise c0 c1 c2 c3 (Err x) is means y z p = tt
 
-pub while_added : (g : Place) (s : tree.Stmt) (e : tree.Expr) (b : tree.Block) (test : Term) (next then entry at : ℕ) (c0 c1 c2 : List Instruction) → s ≡ tree.While' e b → MeansExpr g.names e test → Grows c0 c1 × DoesBlock g c1 b entry then
-    → Pushed c1 c2 (Branch test then next) at → at ≡ entry → Grows c0 c2 × DoesStmt g c2 s next at
-while_added g s e b test next then entry at c0 c1 c2 is means x p same =
-    let last = grows_by_one c1 c2 _ at p in (
+pub while_added : (g : Place) (s : tree.Stmt) (e : tree.Expr) (b : tree.Block) (test : Term) (next then entry : ℕ) (c0 c1 c2 : List Instruction) (r : Result ℕ NoMemory) → s ≡ tree.While' e b → MeansExpr g.names e test → Grows c0 c1 × DoesBlock g c1 b entry then
+    → length c1 ≡ entry → IfOk r (λ at. Pushed c1 c2 (Branch test then next) at) → IfOk r (λ at. Grows c0 c2 × DoesStmt g c2 s next at)
+while_added g s e b test next then entry c0 c1 c2 (Ok at) is means x there p =
+    let last = grows_by_one c1 c2 _ at p in
+    let same : at ≡ entry = p.1 ∙ there in (
       grows_on c0 c1 c2 x.0 last,
       subst (λ (q : tree.Stmt). DoesStmt g c2 q next at) (sym is)
           (test, then, means, pushed_there c1 c2 _ at p, subst (λ m. DoesBlock g c2 b m then) (sym same) (block_grown g c1 c2 b entry then last x.1)),
     )
+while_added g s e b test next then entry c0 c1 c2 (Err x) is means y there p = tt
 
 -- ---- the loop over a block
 
@@ -112,3 +115,26 @@ block_longer g old new stmts i s next entry at some le read x h =
 
 pub block_done : (g : Place) (code : List Instruction) (stmts : List Stmt) (i next entry : ℕ) → i ≡ 0 → DoesBlock g code (block_tree (drop i stmts)) next entry → DoesBlock g code (block_tree stmts) next entry
 block_done g code stmts i next entry none h = subst (λ n. DoesBlock g code (block_tree (drop n stmts)) next entry) none h
+
+-- ---- how many instructions there are
+
+pub block_counted : (stmts : List Stmt) (i : ℕ) (s : Stmt) → 0 < i → i ≤ length stmts → s ≡ get_or stmts (i - 1) s → instructions_in (block_tree (drop (i - 1) stmts)) ≡ instructions_for (stmt_tree s) + instructions_in (block_tree (drop i stmts))
+block_counted stmts i s some le read =
+    let one : suc (i - 1) ≡ i = omega arith in
+    ap (λ ss. instructions_in (block_tree ss)) (dropped stmts (i - 1) s (omega arith) read ∙ ap (λ n. s ∷ drop n stmts) one)
+
+pub rest_fewer : (stmts : List Stmt) (i : ℕ) → instructions_in (block_tree (drop i stmts)) ≤ instructions_in (block_tree stmts)
+rest_fewer [] zero = omega arith
+rest_fewer [] (suc i) = omega arith
+rest_fewer (s ∷ stmts) zero = omega arith
+rest_fewer (s ∷ stmts) (suc i) = let r = rest_fewer stmts i in omega (arith, r)
+
+pub none_begun : (stmts : List Stmt) → instructions_in (block_tree (drop (length stmts) stmts)) ≡ 0
+none_begun stmts = ap (λ ss. instructions_in (block_tree ss)) (nothing_left stmts)
+
+pub pushed_count : (old new : List Instruction) (i : Instruction) (r : Result ℕ NoMemory) (n : ℕ) → length old ≡ n → IfOk r (λ at. Pushed old new i at) → OnOk r (length new ≡ n + 1)
+pushed_count old new i (Ok at) n is p = ap length p.0 ∙ (length-append old (i ∷ []) ∙ ap (λ k. k + 1) is)
+pushed_count old new i (Err e) n is p = tt
+
+pub one_longer : (old new : List Instruction) (i : Instruction) → new ≡ old ++ i ∷ [] → length new ≡ length old + 1
+one_longer old new i is = ap length is ∙ length-append old (i ∷ [])

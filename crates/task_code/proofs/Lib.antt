@@ -2,6 +2,8 @@ pub mod Beginning
 pub mod Feeding
 pub mod Growing
 pub mod Meaning
+pub mod Serving
+pub mod Shapes
 pub mod Simulating
 pub mod Tasking
 pub mod Whole

@@ -1,3 +1,4 @@
 pub mod Flat
+pub mod Serving
 pub mod Starting
 pub mod Tasks

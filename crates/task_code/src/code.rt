@@ -7,9 +7,10 @@ ghost use Rattle.fut_syntax.specs.Views.{type_tree, params_tree, block_tree, ite
 ghost use Rattle.task_machine.specs.Texts.{CellArray as Cells, arrays_from, count_cells, tasks_from};
 ghost use Rattle.task_machine.specs.Variables.{size_of};
 ghost use Rattle.task_frame.specs.Arrays.{IsCellOf};
+ghost use Rattle.task_code.specs.Serving.{AreSound, IsSound, ServesParams, values_for};
 ghost use Rattle.task_code.specs.Flat.{AreGiven, AreCodesOf, IsCodeOf, IsCodeOfTask, instructions_at, code_of};
 
-use crate::compile::{add_block, fill_for, push, task_number};
+use crate::compile::{add_block, push, task_number};
 use crate::scope::Scope;
 use fut_base::list::NoMemory;
 use fut_check::Checked;
@@ -19,7 +20,7 @@ use std::alloc::Global;
 use std::marker::Model;
 use task_frame::cells::{CellArray, arrays_of, cells_of};
 use task_frame::instruction::Instruction;
-use task_frame::names::{Name, find, names_of, narrow};
+use task_frame::names::{Name, find, names_of};
 use task_frame::term::Term;
 
 /// A parameter: its variable, how many argument values stand before its own, and its type.
@@ -64,17 +65,14 @@ impl Model for Code {
 }
 
 impl Code {
-    /// The code of a program. Where a number would not fit in 32 bits, it is want of memory.
+    /// The code of a program.
     pub fn of(alloc: Global, checked: &Checked) -> Result<Code, NoMemory>
         ensures { IfOk result (λ code. (P : tree.Program) → program_tree checked.now.program.now.items ≡ Some P → IsCodeOf P code) }
     {
         let program = checked.program();
         let items = program.items.as_slice();
-        let cells = cells_of(items)?;
+        let cells = cells_of(items);
         let arrays = arrays_of(alloc, items)?;
-        if arrays.len() >= 0x1_0000_0000 || items.len() >= 0x1_0000_0000 {
-            return Err(NoMemory);
-        }
         let tasks = codes_of(alloc, items, arrays.as_slice())?;
         let main = task_number(items, b"main").unwrap_or(0);
         Ok(Code {
@@ -167,6 +165,7 @@ fn codes_of(
     requires arrays { arrays.now ≡ arrays_from 0 (items_tree items.now) }
     requires few { length arrays.now < 2 ^ 32 }
     requires tasks { length (tasks_from (items_tree items.now)) < 2 ^ 32 }
+    requires sound { AreSound (items_tree items.now) (items_tree items.now) }
     ensures { IfOk result (λ codes. AreCodesOf (items_tree items.now) (tasks_from (items_tree items.now)) codes) }
 {
     let mut codes = Vec::new(alloc);
@@ -189,12 +188,10 @@ fn code_of(
     requires arrays { arrays.now ≡ arrays_from 0 (items_tree items.now) }
     requires few { length arrays.now < 2 ^ 32 }
     requires tasks { length (tasks_from (items_tree items.now)) < 2 ^ 32 }
+    requires sound { IsSound (items_tree items.now) (params_tree params.now) (block_tree body.now) }
     ensures { IfOk result (λ code. (name : List ℕ) → IsCodeOfTask (items_tree items.now) (record { name = name; params = params_tree params.now; body = block_tree body.now }) code) }
 {
     let names = names_of(alloc, params, body)?;
-    if names.len() >= 0x1_0000_0000 {
-        return Err(NoMemory);
-    }
     let given = given_of(alloc, names.as_slice(), params)?;
     let scope = Scope {
         items,
@@ -219,24 +216,23 @@ fn code_of(
 
 /// The parameters of a task by the numbers of their variables.
 fn given_of(alloc: Global, names: &[Name], params: &[Param]) -> Result<Items<Given>, NoMemory>
-    requires { length names.now < 2 ^ 32 }
+    requires names { length names.now < 2 ^ 32 }
+    requires serves { ServesParams names.now (params_tree params.now) }
+    requires few { values_for (params_tree params.now) < 2 ^ 32 }
     ensures { IfOk result (λ given. AreGiven names.now 0 (params_tree params.now) given) }
 {
     let mut given = Vec::new(alloc);
     let mut first: u32 = 0;
     for param in params {
-        match find(names, param.name.as_slice()) {
-            Some(variable) => {
-                let _fill = fill_for(names, variable, &param.kind)?;
-                given.push(Given {
-                    variable,
-                    first,
-                    kind: param.kind,
-                })?;
-                first = narrow(u64::from(first).saturating_add(size_of(&param.kind)))?;
-            }
-            None => return Err(NoMemory),
-        }
+        let Some(variable) = find(names, param.name.as_slice()) else {
+            unreachable!()
+        };
+        given.push(Given {
+            variable,
+            first,
+            kind: param.kind,
+        })?;
+        first += size_of(&param.kind) as u32;
     }
     Ok(Items::from_vec(given))
 }

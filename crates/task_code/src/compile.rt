@@ -1,5 +1,5 @@
 //! Statements become instructions.
-ghost use Rattle.std.specs.Prelude.{ℕ, ◌≡◌, ◌<◌, ◌^◌, ◌∷◌, ◌++◌, [], length, IfOk, map, Some};
+ghost use Rattle.std.specs.Prelude.{ℕ, ◌≡◌, ◌<◌, ◌^◌, ◌∷◌, ◌++◌, [], ◌+◌, length, IfOk, OnOk, map, Some};
 ghost use Rattle.fut_syntax.specs.Trees.{Signed};
 ghost use Rattle.fut_syntax.specs.Views.{sign_tree, expr_tree, operand_tree, primary_tree, init_tree, type_tree, args_tree, stmt_tree, block_tree, tail_tree, items_tree};
 ghost use Rattle.task_machine.specs.Variables.{slot_in, operand_in, primary_in};
@@ -8,7 +8,9 @@ ghost use Rattle.task_frame.specs.Terms.{IsSigned};
 ghost use Rattle.task_machine.specs.Texts.{find_task};
 ghost use Rattle.task_frame.specs.declared.instruction.Fill.TheVariants as fill;
 ghost use Rattle.task_frame.specs.declared.instruction.Instruction.TheVariants.{Set, Spawn};
+ghost use Rattle.task_machine.specs.Variables.{size_of};
 ghost use Rattle.task_frame.specs.Names.{find_name, rooms_by, HasRoom};
+ghost use Rattle.task_code.specs.Serving.{HasVariable, IsAlone, IsTask, IsVariable, ServesInit, ServesStmt, ServesBlock, ServesTail, instructions_for, instructions_in, instructions_else};
 ghost use Rattle.task_code.specs.Flat.{place_of, fill_of, Means, MeanAll, IsSource, IsDone, DoesStmt, DoesBlock, DoesTail, Grows, Stands};
 
 use crate::scope::Scope;
@@ -18,7 +20,7 @@ use sqlite_items::{Boxed, Items};
 use std::alloc::Global;
 use task_frame::cells::find_array;
 use task_frame::instruction::{Fill, Instruction, Source, Target};
-use task_frame::names::{Name, find, narrow};
+use task_frame::names::find;
 use task_frame::term::Term;
 
 /// The expression with its variables by number. A word that the task does not declare is 0.
@@ -120,6 +122,7 @@ pub fn task_number(items: &[Item], word: &[u8]) -> Option<u32>
 
 /// Where what an init gives comes from.
 fn source_of(alloc: Global, scope: &Scope, init: &Init) -> Result<Source, NoMemory>
+    requires { ServesInit (place_of scope.now) (init_tree init.now) }
     ensures { IfOk result (λ s. IsSource (place_of scope.now) (init_tree init.now) s) }
 {
     match init {
@@ -132,49 +135,58 @@ fn source_of(alloc: Global, scope: &Scope, init: &Init) -> Result<Source, NoMemo
                 index,
             })
         }
-        Init::Get(word) => match find(scope.names, word.as_slice()) {
-            Some(variable) => Ok(Source::Get { variable }),
-            None => Err(NoMemory),
-        },
+        Init::Get(word) => Ok(Source::Get {
+            variable: variable_of(scope, word.as_slice()),
+        }),
         Init::Create(word, args) => {
             let args = terms_of(alloc, scope, args.as_slice())?;
-            match task_number(scope.items, word.as_slice()) {
-                Some(which) => Ok(Source::Create { which, args }),
-                None => Err(NoMemory),
-            }
+            let which = task_of(scope, word.as_slice());
+            Ok(Source::Create { which, args })
         }
     }
 }
 
-/// The variable of a name that is declared with a type. Each has its number and its room beforehand.
-fn target_of(scope: &Scope, word: &[u8], kind: &VarType) -> Result<Target, NoMemory>
-    ensures { IfOk result (λ t. (find_name scope.now.names.now word.now ≡ Some t.variable) × HasRoom (rooms_by scope.now.names.now) t.variable (type_tree kind.now) × (t.fill ≡ fill_of (type_tree kind.now))) }
+/// The number of the variable of a name.
+fn variable_of(scope: &Scope, word: &[u8]) -> u32
+    requires { IsVariable scope.now.names.now word.now }
+    ensures { find_name scope.now.names.now word.now ≡ Some result }
 {
     match find(scope.names, word) {
-        Some(variable) => {
-            let fill = fill_for(scope.names, variable, kind)?;
-            Ok(Target { variable, fill })
-        }
-        None => Err(NoMemory),
+        Some(variable) => variable,
+        None => unreachable!(),
     }
 }
 
-/// What becomes of a variable of this type, where it has room for that.
-pub fn fill_for(names: &[Name], variable: u32, kind: &VarType) -> Result<Fill, NoMemory>
-    ensures { IfOk result (λ f. HasRoom (rooms_by names.now) variable (type_tree kind.now) × (f ≡ fill_of (type_tree kind.now))) }
+/// The place of the task of a name.
+fn task_of(scope: &Scope, word: &[u8]) -> u32
+    requires { IsTask (items_tree scope.now.items.now) word.now }
+    ensures { find_task (items_tree scope.now.items.now) word.now ≡ Some result }
+{
+    match task_number(scope.items, word) {
+        Some(which) => which,
+        None => unreachable!(),
+    }
+}
+
+/// What becomes of a variable of this type.
+fn fill_for(kind: &VarType) -> Fill
+    requires { size_of (type_tree kind.now) < 2 ^ 32 }
+    ensures { result ≡ fill_of (type_tree kind.now) }
 {
     match kind {
-        VarType::Plain { .. } => Ok(Fill::One),
-        VarType::Array { length, .. } => match names.get(variable as usize) {
-            Some(name) => {
-                if *length <= u64::from(name.room) {
-                    Ok(Fill::Many(*length as u32))
-                } else {
-                    Err(NoMemory)
-                }
-            }
-            None => Err(NoMemory),
-        },
+        VarType::Plain { .. } => Fill::One,
+        VarType::Array { length, .. } => Fill::Many(*length as u32),
+    }
+}
+
+/// The variable of a name that is declared with a type.
+fn target_of(scope: &Scope, word: &[u8], kind: &VarType) -> Target
+    requires { HasVariable scope.now.names.now word.now (type_tree kind.now) }
+    ensures { (find_name scope.now.names.now word.now ≡ Some result.variable) × HasRoom (rooms_by scope.now.names.now) result.variable (type_tree kind.now) × (result.fill ≡ fill_of (type_tree kind.now)) }
+{
+    Target {
+        variable: variable_of(scope, word),
+        fill: fill_for(kind),
     }
 }
 
@@ -185,19 +197,18 @@ fn instruction_of(
     stmt: &Stmt,
     next: u32,
 ) -> Result<Instruction, NoMemory>
+    requires serves { ServesStmt (place_of scope.now) (stmt_tree stmt.now) }
+    requires alone { IsAlone (stmt_tree stmt.now) }
     ensures { IfOk result (λ i. IsDone (place_of scope.now) (stmt_tree stmt.now) next i) }
 {
     match stmt {
-        Stmt::Declare(word, kind) => {
-            let target = target_of(scope, word.as_slice(), kind)?;
-            Ok(Instruction::Set {
-                target,
-                source: Source::Value(Term::Number(0)),
-                next,
-            })
-        }
+        Stmt::Declare(word, kind) => Ok(Instruction::Set {
+            target: target_of(scope, word.as_slice(), kind),
+            source: Source::Value(Term::Number(0)),
+            next,
+        }),
         Stmt::Define(word, kind, init) => {
-            let target = target_of(scope, word.as_slice(), kind)?;
+            let target = target_of(scope, word.as_slice(), kind);
             let source = source_of(alloc, scope, init)?;
             Ok(Instruction::Set {
                 target,
@@ -207,7 +218,7 @@ fn instruction_of(
         }
         Stmt::Assign(word, init) => {
             let source = source_of(alloc, scope, init)?;
-            assignment(scope, word.as_slice(), source, next)
+            Ok(assignment(scope, word.as_slice(), source, next))
         }
         Stmt::Store(word, index, value) => {
             let index = term_of(alloc, scope, index)?;
@@ -222,79 +233,74 @@ fn instruction_of(
         }
         Stmt::Spawn(word, args) => {
             let args = terms_of(alloc, scope, args.as_slice())?;
-            spawning(scope, word.as_slice(), args, next)
+            Ok(spawning(scope, word.as_slice(), args, next))
         }
         Stmt::Sync => Ok(Instruction::Sync { next }),
         Stmt::Return(value) => Ok(Instruction::Return {
             value: term_of(alloc, scope, value)?,
         }),
-        Stmt::If(_, _, _) | Stmt::While(_, _) => Err(NoMemory),
+        Stmt::If(_, _, _) | Stmt::While(_, _) => unreachable!(),
     }
 }
 
 /// Sets all of a variable.
-fn assignment(
-    scope: &Scope,
-    word: &[u8],
-    source: Source,
-    next: u32,
-) -> Result<Instruction, NoMemory>
-    ensures { IfOk result (λ i. (n : ℕ) × (find_name scope.now.names.now word.now ≡ Some n) × (i ≡ Set (record { variable = n; fill = fill.Again }) source next)) }
+fn assignment(scope: &Scope, word: &[u8], source: Source, next: u32) -> Instruction
+    requires { IsVariable scope.now.names.now word.now }
+    ensures { (n : ℕ) × (find_name scope.now.names.now word.now ≡ Some n) × (result ≡ Set (record { variable = n; fill = fill.Again }) source next) }
 {
-    match find(scope.names, word) {
-        Some(variable) => Ok(Instruction::Set {
-            target: Target {
-                variable,
-                fill: Fill::Again,
-            },
-            source,
-            next,
-        }),
-        None => Err(NoMemory),
+    Instruction::Set {
+        target: Target {
+            variable: variable_of(scope, word),
+            fill: Fill::Again,
+        },
+        source,
+        next,
     }
 }
 
 /// Spawns the task of a name.
-fn spawning(
-    scope: &Scope,
-    word: &[u8],
-    args: Items<Term>,
-    next: u32,
-) -> Result<Instruction, NoMemory>
-    ensures { IfOk result (λ i. (n : ℕ) × (find_task (items_tree scope.now.items.now) word.now ≡ Some n) × (i ≡ Spawn n args next)) }
+fn spawning(scope: &Scope, word: &[u8], args: Items<Term>, next: u32) -> Instruction
+    requires { IsTask (items_tree scope.now.items.now) word.now }
+    ensures { (n : ℕ) × (find_task (items_tree scope.now.items.now) word.now ≡ Some n) × (result ≡ Spawn n args next) }
 {
-    match task_number(scope.items, word) {
-        Some(which) => Ok(Instruction::Spawn { which, args, next }),
-        None => Err(NoMemory),
+    Instruction::Spawn {
+        which: task_of(scope, word),
+        args,
+        next,
     }
 }
 
 /// Adds an instruction, and tells its place.
 pub fn push(code: &mut Vec<Instruction>, instruction: Instruction) -> Result<u32, NoMemory>
+    requires { length code.old.items < 2 ^ 32 }
     ensures { IfOk result (λ at. (code.new.items ≡ code.old.items ++ instruction ∷ []) × (at ≡ length code.old.items)) }
 {
-    let at = narrow(code.len() as u64)?;
+    let at = code.len() as u32;
     code.push(instruction)?;
     Ok(at)
 }
 
 /// How many instructions a block becomes.
 #[cycle(sizes)]
-fn block_size(stmts: &[Stmt]) -> u64 {
-    let mut size: u64 = 0;
+fn block_size(stmts: &[Stmt]) -> u32
+    requires few { instructions_in (block_tree stmts.now) < 2 ^ 32 }
+    ensures { result ≡ instructions_in (block_tree stmts.now) }
+{
+    let mut size: u32 = 0;
     for stmt in stmts {
-        size = size.saturating_add(stmt_size(stmt));
+        size += stmt_size(stmt);
     }
     size
 }
 
 #[cycle(sizes)]
-fn stmt_size(stmt: &Stmt) -> u64 {
+fn stmt_size(stmt: &Stmt) -> u32
+    requires few { instructions_for (stmt_tree stmt.now) < 2 ^ 32 }
+    ensures { result ≡ instructions_for (stmt_tree stmt.now) }
+{
     match stmt {
-        Stmt::If(_, body, tail) => block_size(body.as_slice())
-            .saturating_add(tail_size(tail))
-            .saturating_add(1),
-        Stmt::While(_, body) => block_size(body.as_slice()).saturating_add(1),
+        Stmt::If(_, body, tail) => block_size(body.as_slice()) + tail_size(tail) + 1,
+        Stmt::While(_, body) => block_size(body.as_slice()) + 1,
         Stmt::Declare(_, _)
         | Stmt::Define(_, _, _)
         | Stmt::Assign(_, _)
@@ -306,7 +312,10 @@ fn stmt_size(stmt: &Stmt) -> u64 {
 }
 
 #[cycle(sizes)]
-fn tail_size(tail: &Tail) -> u64 {
+fn tail_size(tail: &Tail) -> u32
+    requires few { instructions_else (tail_tree tail.now) < 2 ^ 32 }
+    ensures { result ≡ instructions_else (tail_tree tail.now) }
+{
     match tail {
         Tail::None => 0,
         Tail::Else(body) => block_size(body.as_slice()),
@@ -323,7 +332,10 @@ pub fn add_block(
     next: u32,
     code: &mut Vec<Instruction>,
 ) -> Result<u32, NoMemory>
-    ensures { IfOk result (λ entry. Grows code.old.items code.new.items × DoesBlock (place_of scope.now) code.new.items (block_tree stmts.now) next entry) }
+    requires serves { ServesBlock (place_of scope.now) (block_tree stmts.now) }
+    requires few { length code.old.items + instructions_in (block_tree stmts.now) < 2 ^ 32 }
+    ensures does { IfOk result (λ entry. Grows code.old.items code.new.items × DoesBlock (place_of scope.now) code.new.items (block_tree stmts.now) next entry) }
+    ensures count { OnOk result (length code.new.items ≡ length code.old.items + instructions_in (block_tree stmts.now)) }
 {
     let mut entry = next;
     for index in (0..stmts.len()).rev() {
@@ -341,7 +353,10 @@ fn add_stmt(
     next: u32,
     code: &mut Vec<Instruction>,
 ) -> Result<u32, NoMemory>
-    ensures { IfOk result (λ entry. Grows code.old.items code.new.items × DoesStmt (place_of scope.now) code.new.items (stmt_tree stmt.now) next entry) }
+    requires serves { ServesStmt (place_of scope.now) (stmt_tree stmt.now) }
+    requires few { length code.old.items + instructions_for (stmt_tree stmt.now) < 2 ^ 32 }
+    ensures does { IfOk result (λ entry. Grows code.old.items code.new.items × DoesStmt (place_of scope.now) code.new.items (stmt_tree stmt.now) next entry) }
+    ensures count { OnOk result (length code.new.items ≡ length code.old.items + instructions_for (stmt_tree stmt.now)) }
 {
     match stmt {
         Stmt::If(test, body, tail) => {
@@ -360,17 +375,16 @@ fn add_stmt(
         Stmt::While(test, body) => {
             let test = term_of(alloc, scope, test)?;
             let size = block_size(body.as_slice());
-            let entry = narrow((code.len() as u64).saturating_add(size))?;
+            let entry = code.len() as u32 + size;
             let then = add_block(alloc, scope, body.as_slice(), entry, code)?;
-            let at = push(
+            push(
                 code,
                 Instruction::Branch {
                     test,
                     then,
                     otherwise: next,
                 },
-            )?;
-            if at == entry { Ok(at) } else { Err(NoMemory) }
+            )
         }
         Stmt::Declare(_, _)
         | Stmt::Define(_, _, _)
@@ -390,7 +404,11 @@ fn add_one(
     next: u32,
     code: &mut Vec<Instruction>,
 ) -> Result<u32, NoMemory>
-    ensures { IfOk result (λ entry. Grows code.old.items code.new.items × Stands code.new.items entry (IsDone (place_of scope.now) (stmt_tree stmt.now) next)) }
+    requires serves { ServesStmt (place_of scope.now) (stmt_tree stmt.now) }
+    requires alone { IsAlone (stmt_tree stmt.now) }
+    requires few { length code.old.items < 2 ^ 32 }
+    ensures does { IfOk result (λ entry. Grows code.old.items code.new.items × Stands code.new.items entry (IsDone (place_of scope.now) (stmt_tree stmt.now) next)) }
+    ensures count { OnOk result (length code.new.items ≡ length code.old.items + 1) }
 {
     let instruction = instruction_of(alloc, scope, stmt, next)?;
     push(code, instruction)
@@ -405,7 +423,10 @@ fn add_tail(
     next: u32,
     code: &mut Vec<Instruction>,
 ) -> Result<u32, NoMemory>
-    ensures { IfOk result (λ entry. Grows code.old.items code.new.items × DoesTail (place_of scope.now) code.new.items (tail_tree tail.now) next entry) }
+    requires serves { ServesTail (place_of scope.now) (tail_tree tail.now) }
+    requires few { length code.old.items + instructions_else (tail_tree tail.now) < 2 ^ 32 }
+    ensures does { IfOk result (λ entry. Grows code.old.items code.new.items × DoesTail (place_of scope.now) code.new.items (tail_tree tail.now) next entry) }
+    ensures count { OnOk result (length code.new.items ≡ length code.old.items + instructions_else (tail_tree tail.now)) }
 {
     match tail {
         Tail::None => Ok(next),

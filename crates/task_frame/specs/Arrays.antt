@@ -1,5 +1,6 @@
 -- Arrays of cells by number.
 use Rattle.std.specs.Prelude.{◌≡◌, ℕ, ◌+◌, ◌<◌, ◌≤◌, ◌⊎◌, if◌then◌else◌, List, [], ◌∷◌, slice_get, Option, Some, None, ℤ, bytes_eq, option_map}
+use Rattle.fut_syntax.specs.Trees as tree
 use Rattle.task_machine.specs.Texts.{CellArray}
 use Rattle.task_machine.specs.Values.{index_of}
 
@@ -27,3 +28,9 @@ IsCellOf arrays cell p = (a : CellArray) × (slice_get arrays p.0 ≡ Some a) ×
 abbrev pub HasCell : ℕ → List CellArray → Type 0
 HasCell cell [] = ⊥
 HasCell cell (a ∷ rest) = ((a.first ≤ cell) × (cell < a.first + a.length)) ⊎ HasCell cell rest
+
+-- each array of cells among some items has a cell
+abbrev pub EachHasCells : List tree.Item → Type 0
+EachHasCells [] = Unit {0}
+EachHasCells (tree.CellsOf name length ∷ rest) = (1 ≤ length) × EachHasCells rest
+EachHasCells (tree.TaskOf name params depth body ∷ rest) = EachHasCells rest

@@ -1,4 +1,5 @@
 pub mod Arrays
 pub mod Frames
+pub mod Gathered
 pub mod Names
 pub mod Terms

@@ -3,7 +3,7 @@ ghost use Rattle.std.specs.Prelude.{◌≡◌, ◌+◌, ◌<◌, ◌≤◌, ◌^
 ghost use Rattle.fut_syntax.specs.Views.{items_tree};
 ghost use Rattle.task_machine.specs.Texts.{arrays_from, count_cells};
 ghost use Rattle.task_machine.specs.Values.{index_of};
-ghost use Rattle.task_frame.specs.Arrays.{find_array};
+ghost use Rattle.task_frame.specs.Arrays.{EachHasCells, find_array};
 
 use crate::term::index_of;
 use fut_base::list::NoMemory;
@@ -57,25 +57,24 @@ impl CellArray {
     }
 }
 
-/// How many cells all arrays have together, where a cell's number has 32 bits.
-pub fn cells_of(items: &[Item]) -> Result<u32, NoMemory>
-    ensures { IfOk result (λ cells. cells ≡ count_cells (items_tree items.now)) }
+/// How many cells all arrays have together.
+pub fn cells_of(items: &[Item]) -> u32
+    requires { count_cells (items_tree items.now) < 2 ^ 32 }
+    ensures { result ≡ count_cells (items_tree items.now) }
 {
     let mut cells: u32 = 0;
     for item in items {
         if let Item::Cells(_, length) = item {
-            if *length >= 0x1_0000_0000 - u64::from(cells) {
-                return Err(NoMemory);
-            }
             cells += *length as u32;
         }
     }
-    Ok(cells)
+    cells
 }
 
 /// The arrays of the items, in order.
 pub fn arrays_of(alloc: Global, items: &[Item]) -> Result<Items<CellArray>, NoMemory>
-    requires { count_cells (items_tree items.now) < 2 ^ 32 }
+    requires few { count_cells (items_tree items.now) < 2 ^ 32 }
+    requires some { EachHasCells (items_tree items.now) }
     ensures { IfOk result (λ arrays. arrays ≡ arrays_from 0 (items_tree items.now)) }
 {
     let mut arrays = Vec::new(alloc);
@@ -83,9 +82,6 @@ pub fn arrays_of(alloc: Global, items: &[Item]) -> Result<Items<CellArray>, NoMe
     for item in items {
         if let Item::Cells(name, length) = item {
             let length = *length as u32;
-            if length == 0 {
-                return Err(NoMemory);
-            }
             let name = Items::from_slice(alloc, name.as_slice())?;
             arrays.push(CellArray {
                 name,

@@ -118,7 +118,7 @@ pub record IsCalled (gives : ℕ → ℕ → Bool) (P : tree.Program) (vars : Va
   pub means : means_task (declaration (items_of P) w) ≡ Some signature
   pub depth : text.depth ≡ signature.result
 
-call_known : (o : Option Signature) (count n : ℕ) → broken (call_rule o count) n ≡ [] → (s : Signature) × (o ≡ Some s) × (length s.params ≡ count)
+pub call_known : (o : Option Signature) (count n : ℕ) → broken (call_rule o count) n ≡ [] → (s : Signature) × (o ≡ Some s) × (length s.params ≡ count)
 call_known None count n h = absurd (no_some _ _ refl (unbroken (call_rule None count) n h))
 call_known (Some s) count n h =
     by_bool (λ b. nat_eq (length s.params) count ≡ b → broken (cond b None (Some rule.ArgumentCount)) n ≡ [] → (x : Signature) × (Some s ≡ Some x) × (length x.params ≡ count)) (nat_eq (length s.params) count)

@@ -1,4 +1,4 @@
-use Rattle.std.proofs.Common.{◌≡◌, ◌<◌, None, length, sym, ap, ◌∙◌, arith}
+use Rattle.std.proofs.Common.{◌≡◌, ◌<◌, None, length, refl, sym, ap, ◌∙◌, arith}
 use Rattle.std.specs.Prelude.{slice_get}
 use Rattle.std.proofs.lemmas.Option.{slice_get-get_or}
 use Rattle.fut_tokens.specs.declared.token.Place.{Place}
@@ -14,8 +14,14 @@ walk_items-requires c =
     let end = ap (λ (s : Searched). s.end) c.start-search.ensures in
     omega (arith, fit, at, end, ap length c.as_slice-places.ensures)
 
-pub new-requires : goal.new-requires
-new-requires c =
+pub new-requires-clause-few : goal.new-requires-clause-few
+new-requires-clause-few c =
+    let fit = items_fit c.args.program.now c.requires c.args.program.now.items refl in
+    let few = c.requires.few in
+    omega (arith, fit, few)
+
+pub new-requires-clause-checked : goal.new-requires-clause-checked
+new-requires-clause-checked c =
     let found : c.walk_items.new.search.found ≡ least None (faults_of c.requires.tree) =
     found_in c.args.program.now c.requires c.as_slice.result.now c.start-search.result c.walk_items.new.search _ c.as_slice.ensures c.start-search.ensures c.in-Ok.ensures
     in is_checked c.args.program.now c.requires c.walk_items.new.search.found found (sym c.in-None.ensures.value)

@@ -1,5 +1,6 @@
-use Rattle.std.proofs.Common.{drop}
+use Rattle.std.proofs.Common.{◌≡◌, ◌+◌, length, drop}
 use Rattle.fut_syntax.specs.Views.{block_tree}
+use Rattle.task_code.specs.Serving.{instructions_in}
 use Rattle.task_code.specs.Flat.{place_of, DoesBlock, Grows}
 use Rattle.task_code.proofs.compile.+statements.Given as goal
 
@@ -8,4 +9,5 @@ invariant-add_block-loop-index l =
     record {
       grows : Grows l.fn.code.items l.code.items;
       does : DoesBlock (place_of l.scope) l.code.items (block_tree (drop l.index l.stmts)) l.next l.entry;
+      count : length l.code.items ≡ length l.fn.code.items + instructions_in (block_tree (drop l.index l.stmts));
     }

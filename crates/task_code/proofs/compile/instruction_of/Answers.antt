@@ -9,19 +9,19 @@ use Rattle.task_frame.specs.Names.{find_name}
 use Rattle.task_code.specs.Flat.{place_of, IsDone}
 use Rattle.task_code.proofs.compile.instruction_of.Goals as goal
 
-pub returns-in_ok-target-in-Declare : goal.returns-in_ok-target-in-Declare
-returns-in_ok-target-in-Declare c =
+pub returns-in-Declare : goal.returns-in-Declare
+returns-in-Declare c =
     let names = c.args.scope.now.names.now in
-    let t = c.in_ok-target-in-Declare.target in
-    let h = c.in_ok-target-in-Declare.ensures in
+    let t = c.target_of.result in
+    let h = c.target_of.ensures in
     subst (λ (s : Stmt). IsDone (place_of c.args.scope.now) (stmt_tree s) c.args.next (Set t (source.Value (Number (pos 0))) c.args.next)) (sym c.in-Declare.is)
     (t.variable, subst (λ (x : List ℕ). find_name names x ≡ Some t.variable) c.as_slice.ensures h.0, h.1, ap (λ f. Set (record { variable = t.variable; fill = f }) (source.Value (Number (pos 0))) c.args.next) h.2)
 
 pub returns-in_ok-source-in-Define : goal.returns-in_ok-source-in-Define
 returns-in_ok-source-in-Define c =
     let names = c.args.scope.now.names.now in
-    let t = c.in_ok-target-in-Define.target in
-    let h = c.in_ok-target-in-Define.ensures in
+    let t = c.target_of-target.result in
+    let h = c.target_of-target.ensures in
     let s = c.in_ok-source-in-Define.source in
     subst (λ (x : Stmt). IsDone (place_of c.args.scope.now) (stmt_tree x) c.args.next (Set t s c.args.next)) (sym c.in-Define.is)
     (t.variable, s, subst (λ (x : List ℕ). find_name names x ≡ Some t.variable) c.as_slice-in-Define.ensures h.0, h.1, c.in_ok-source-in-Define.ensures, ap (λ f. Set (record { variable = t.variable; fill = f }) s c.args.next) h.2)
