@@ -8,7 +8,6 @@ use Rattle.fut_base.specs.declared.record.Finish.{Finish}
 use Rattle.fut_base.specs.declared.record.Finish.TheVariants as finish
 use Rattle.fut_base.specs.Racing.{IsReport}
 use Rattle.fut_base.proofs.Reports.{one_report}
-use Rattle.fut_tokens.specs.declared.token.Token.{Token}
 use Rattle.fut_tokens.specs.declared.token.Place.{Place}
 use Rattle.fut_tokens.proofs.Cuts.{tokens_once}
 use Rattle.fut_syntax.specs.Trees as tree

@@ -1,15 +1,8 @@
 -- What is answered to what nothing hinders.
-use Rattle.std.proofs.Common.{◌≡◌, ℕ, ◌≤◌, List, ◌++◌, length, inl, inr, sym, ap, ◌∙◌, subst, arith}
-use Rattle.std.specs.Prelude.{Option, Some, None}
-use Rattle.std.specs.Io.KnownBytes.{Consumes, IsAtEnd}
-use Rattle.std.proofs.lemmas.List.{append-nil, length-append}
+use Rattle.std.proofs.Common.{◌≡◌, ℕ, List, inl, inr, sym, ap, subst, arith}
 use Rattle.fut_base.specs.declared.event.Event.{Event}
 use Rattle.fut_syntax.specs.Trees as tree
-use Rattle.fut_tokens.specs.declared.token.Place.{Place}
-use Rattle.fut_syntax.specs.Texts.{IsFaultPlace}
-use Rattle.fut_syntax.proofs.Programs.{one_program, no_faulty_program}
-use Rattle.fut_rules.specs.Faults.{IsAmong}
-use Rattle.fut_check.specs.Items.{faults_of}
+use Rattle.fut_syntax.proofs.Programs.{one_program}
 use Rattle.run_record.specs.Records.{IsFault}
 use Rattle.run_record.proofs.Onces.{one_value}
 use Rattle.run_check.specs.Checks.{IsRefusedAt}
@@ -20,7 +13,7 @@ use Rattle.command_words.specs.declared.words.Command.{Command}
 use Rattle.command_words.specs.declared.words.Command.TheVariants as command
 use Rattle.command_words.specs.Asking.{most_bytes}
 use Rattle.fut_driver.specs.Given.{Asked, Asks}
-use Rattle.fut_driver.specs.Verdict.{Told, IsRead, IsWellTypedText, IsIllTypedText, IsRefusedRecord, GaveTooMuch, IsGiven, IsOfHistory, IsVerdict, IsFit, IsUnhindered, AsksHistory, IsFree}
+use Rattle.fut_driver.specs.Verdict.{Told, IsRead, IsWellTypedText, IsRefusedRecord, GaveTooMuch, IsGiven, IsOfHistory, IsVerdict, IsFit, IsUnhindered, AsksHistory, IsFree}
 use Rattle.command_words.proofs.Wording.{one_command}
 use Rattle.fut_driver.proofs.Coming.{no_syntax, no_type_fault}
 use Rattle.fut_driver.proofs.Consuming.{all_left, not_longer}

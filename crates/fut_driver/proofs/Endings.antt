@@ -14,10 +14,9 @@ use Rattle.fut_syntax.specs.Texts.{Parses, IsProgram}
 use Rattle.fut_check.specs.Checks.{HasPlaces, IsFaultOf}
 use Rattle.fut_check.specs.Items.{IsWellTyped}
 use Rattle.task_code.specs.Flat.{Compiled, IsCodeOf}
-use Rattle.run_record.specs.Records.{IsFault, IsFinish}
+use Rattle.run_record.specs.Records.{AreNumbered, IsFault, IsFinish}
 use Rattle.run_replay.specs.Serials.{IsSerialRun}
 use Rattle.run_check.specs.Checks.{IsAccepted}
-use Rattle.run_check.specs.Within.{AreNumbered}
 use Rattle.run_check.proofs.Within.{accepted_are_within}
 use Rattle.fut_driver.specs.declared.status.Status.{Status}
 use Rattle.fut_driver.specs.declared.status.Status.TheVariants as status

@@ -1,5 +1,5 @@
 -- What is answered depends on the command alone.
-use Rattle.std.proofs.Common.{◌≡◌, ℕ, Bool, true, false, List, [], ◌∷◌, codes, inl, inr, refl, sym, subst}
+use Rattle.std.proofs.Common.{ℕ, Bool, true, false, List, [], ◌∷◌, codes, inl, inr, refl, subst}
 use Rattle.fut_base.specs.declared.event.Event.{Event}
 use Rattle.command_words.specs.declared.options.Choice.{Choice}
 use Rattle.command_words.specs.declared.options.Choice.TheVariants as choice

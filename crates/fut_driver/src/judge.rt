@@ -50,7 +50,15 @@ fn outcome_of(alloc: Global, command: Command, bytes: &[u8]) -> Outcome
 /// Reads the text where the words ask for something, and does it.
 pub fn judge<S: Source>(alloc: Global, words: &Words, may_run: bool, source: &mut S) -> Outcome
     ensures verdict { IsVerdict
-        (record { may_run = may_run; words = words.now; left_before = S.left source.old; left_after = S.left source.new; ended = S.ended source.new; faults_before = S.faults source.old; faults_after = S.faults source.new })
+        (record {
+          may_run = may_run;
+          words = words.now;
+          left_before = S.left source.old;
+          left_after = S.left source.new;
+          ended = S.ended source.new;
+          faults_before = S.faults source.old;
+          faults_after = S.faults source.new;
+        })
         result.status (events_of result.history) (due_text result.status result.text.items) }
     ensures usage { result.status ≡ status.Usage → source.new ≡ source.old }
 {

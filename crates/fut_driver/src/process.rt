@@ -13,14 +13,15 @@ use crate::status::{Ended, Status};
 use crate::top::forder;
 use fut_base::gate::Gate;
 use fut_base::ports::{Sink, Source, Wrote};
+use fut_base::record::History;
 use std::alloc::Global;
 use std::env::Args;
 use std::io;
 use std::process::ExitCode;
 
 /// Does what the command line asks for, and gives the number of the status. The first word is the program's name. Where a word is
-/// not UTF-8 the status is `Usage`, where there was no memory for the words it is `NoMemory`: then nothing is read, and the line of
-/// that status is written.
+/// not UTF-8 the status is `Usage`, and the line of that status is written; where there was no memory for the words it is `NoMemory`, and
+/// nothing is written. In both cases nothing is read.
 pub fn carry_out<R, S: Source, K: Sink, G: Gate>(
     rt: &R,
     alloc: Global,
@@ -30,7 +31,15 @@ pub fn carry_out<R, S: Source, K: Sink, G: Gate>(
     gate: &G,
 ) -> ExitCode
     ensures { (line : Line) × IsLineOf given line × EndsWith line
-        (λ words. record { may_run = true; words = words; left_before = S.left source.old; left_after = S.left source.new; ended = S.ended source.new; faults_before = S.faults source.old; faults_after = S.faults source.new })
+        (λ words. record {
+          may_run = true;
+          words = words;
+          left_before = S.left source.old;
+          left_after = S.left source.new;
+          ended = S.ended source.new;
+          faults_before = S.faults source.old;
+          faults_after = S.faults source.new;
+        })
         (record { held_before = K.held out.old; held_after = K.held out.new; faults_before = K.faults out.old; faults_after = K.faults out.new })
         (exit_status result) }
 {
@@ -49,7 +58,15 @@ pub fn answer_line<R, S: Source, K: Sink, G: Gate>(
     gate: &G,
 ) -> Ended
     ensures answer { IsLineAnswer line.now
-        (λ words. record { may_run = true; words = words; left_before = S.left source.old; left_after = S.left source.new; ended = S.ended source.new; faults_before = S.faults source.old; faults_after = S.faults source.new })
+        (λ words. record {
+          may_run = true;
+          words = words;
+          left_before = S.left source.old;
+          left_after = S.left source.new;
+          ended = S.ended source.new;
+          faults_before = S.faults source.old;
+          faults_after = S.faults source.new;
+        })
         (record { held_before = K.held out.old; held_after = K.held out.new; faults_before = K.faults out.old; faults_after = K.faults out.new })
         result.status (events_of result.history) }
 
@@ -59,7 +76,10 @@ pub fn answer_line<R, S: Source, K: Sink, G: Gate>(
     match line {
         Line::Words(words) => forder(rt, alloc, words, source, out, gate),
         Line::Foreign => refuse(alloc, Status::Usage, out),
-        Line::NoMemory => refuse(alloc, Status::NoMemory, out),
+        Line::NoMemory => Ended {
+            status: Status::NoMemory,
+            history: History::make(alloc),
+        },
     }
 }
 

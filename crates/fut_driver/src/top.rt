@@ -30,16 +30,40 @@ pub fn forder<R, S: Source, K: Sink, G: Gate>(
 ) -> Ended
     // The status, the history and what was written are those of a verdict whose causes hold.
     ensures answer { IsAnswer
-        (record { may_run = true; words = words.now; left_before = S.left source.old; left_after = S.left source.new; ended = S.ended source.new; faults_before = S.faults source.old; faults_after = S.faults source.new })
+        (record {
+          may_run = true;
+          words = words.now;
+          left_before = S.left source.old;
+          left_after = S.left source.new;
+          ended = S.ended source.new;
+          faults_before = S.faults source.old;
+          faults_after = S.faults source.new;
+        })
         (record { held_before = K.held out.old; held_after = K.held out.new; faults_before = K.faults out.old; faults_after = K.faults out.new })
         result.status (events_of result.history) }
 
     // A well-typed program that nothing hinders is printed or run.
     ensures complete { IsUnhindered
-        (record { may_run = true; words = words.now; left_before = S.left source.old; left_after = S.left source.new; ended = S.ended source.new; faults_before = S.faults source.old; faults_after = S.faults source.new })
+        (record {
+          may_run = true;
+          words = words.now;
+          left_before = S.left source.old;
+          left_after = S.left source.new;
+          ended = S.ended source.new;
+          faults_before = S.faults source.old;
+          faults_after = S.faults source.new;
+        })
         (record { held_before = K.held out.old; held_after = K.held out.new; faults_before = K.faults out.old; faults_after = K.faults out.new })
         → IsFree
-        (record { may_run = true; words = words.now; left_before = S.left source.old; left_after = S.left source.new; ended = S.ended source.new; faults_before = S.faults source.old; faults_after = S.faults source.new })
+        (record {
+          may_run = true;
+          words = words.now;
+          left_before = S.left source.old;
+          left_after = S.left source.new;
+          ended = S.ended source.new;
+          faults_before = S.faults source.old;
+          faults_after = S.faults source.new;
+        })
         result.status }
 
     // With other words nothing is read.
@@ -53,16 +77,40 @@ pub fn forder<R, S: Source, K: Sink, G: Gate>(
 pub fn plain<S: Source, K: Sink>(alloc: Global, words: &Words, source: &mut S, out: &mut K) -> Ended
     // The status, the history and what was written are those of a verdict whose causes hold.
     ensures answer { IsAnswer
-        (record { may_run = false; words = words.now; left_before = S.left source.old; left_after = S.left source.new; ended = S.ended source.new; faults_before = S.faults source.old; faults_after = S.faults source.new })
+        (record {
+          may_run = false;
+          words = words.now;
+          left_before = S.left source.old;
+          left_after = S.left source.new;
+          ended = S.ended source.new;
+          faults_before = S.faults source.old;
+          faults_after = S.faults source.new;
+        })
         (record { held_before = K.held out.old; held_after = K.held out.new; faults_before = K.faults out.old; faults_after = K.faults out.new })
         result.status (events_of result.history) }
 
     // A well-typed program that nothing hinders is printed or run.
     ensures complete { IsUnhindered
-        (record { may_run = false; words = words.now; left_before = S.left source.old; left_after = S.left source.new; ended = S.ended source.new; faults_before = S.faults source.old; faults_after = S.faults source.new })
+        (record {
+          may_run = false;
+          words = words.now;
+          left_before = S.left source.old;
+          left_after = S.left source.new;
+          ended = S.ended source.new;
+          faults_before = S.faults source.old;
+          faults_after = S.faults source.new;
+        })
         (record { held_before = K.held out.old; held_after = K.held out.new; faults_before = K.faults out.old; faults_after = K.faults out.new })
         → IsFree
-        (record { may_run = false; words = words.now; left_before = S.left source.old; left_after = S.left source.new; ended = S.ended source.new; faults_before = S.faults source.old; faults_after = S.faults source.new })
+        (record {
+          may_run = false;
+          words = words.now;
+          left_before = S.left source.old;
+          left_after = S.left source.new;
+          ended = S.ended source.new;
+          faults_before = S.faults source.old;
+          faults_after = S.faults source.new;
+        })
         result.status }
 
     // With other words nothing is read.
@@ -81,16 +129,40 @@ fn answer<S: Source, K: Sink>(
 ) -> Ended
     // The status, the history and what was written are those of a verdict whose causes hold.
     ensures answer { IsAnswer
-        (record { may_run = may_run; words = words.now; left_before = S.left source.old; left_after = S.left source.new; ended = S.ended source.new; faults_before = S.faults source.old; faults_after = S.faults source.new })
+        (record {
+          may_run = may_run;
+          words = words.now;
+          left_before = S.left source.old;
+          left_after = S.left source.new;
+          ended = S.ended source.new;
+          faults_before = S.faults source.old;
+          faults_after = S.faults source.new;
+        })
         (record { held_before = K.held out.old; held_after = K.held out.new; faults_before = K.faults out.old; faults_after = K.faults out.new })
         result.status (events_of result.history) }
 
     // A well-typed program that nothing hinders is printed or run.
     ensures complete { IsUnhindered
-        (record { may_run = may_run; words = words.now; left_before = S.left source.old; left_after = S.left source.new; ended = S.ended source.new; faults_before = S.faults source.old; faults_after = S.faults source.new })
+        (record {
+          may_run = may_run;
+          words = words.now;
+          left_before = S.left source.old;
+          left_after = S.left source.new;
+          ended = S.ended source.new;
+          faults_before = S.faults source.old;
+          faults_after = S.faults source.new;
+        })
         (record { held_before = K.held out.old; held_after = K.held out.new; faults_before = K.faults out.old; faults_after = K.faults out.new })
         → IsFree
-        (record { may_run = may_run; words = words.now; left_before = S.left source.old; left_after = S.left source.new; ended = S.ended source.new; faults_before = S.faults source.old; faults_after = S.faults source.new })
+        (record {
+          may_run = may_run;
+          words = words.now;
+          left_before = S.left source.old;
+          left_after = S.left source.new;
+          ended = S.ended source.new;
+          faults_before = S.faults source.old;
+          faults_after = S.faults source.new;
+        })
         result.status }
 
     // With other words nothing is read.

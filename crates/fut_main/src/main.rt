@@ -21,13 +21,17 @@ use std::env::Env;
 use std::process::ExitCode;
 
 /// Does what the process's words ask for, over this source and this sink. Which words those are the outside decides.
-fn answer<R: Env + AllocGlobal, S: Source, K: Sink>(
-    rt: &R,
-    source: &mut S,
-    out: &mut K,
-) -> ExitCode
+fn answer<R: Env + AllocGlobal, S: Source, K: Sink>(rt: &R, source: &mut S, out: &mut K) -> ExitCode
     ensures { (line : Line) × EndsWith line
-        (λ words. record { may_run = true; words = words; left_before = S.left source.old; left_after = S.left source.new; ended = S.ended source.new; faults_before = S.faults source.old; faults_after = S.faults source.new })
+        (λ words. record {
+          may_run = true;
+          words = words;
+          left_before = S.left source.old;
+          left_after = S.left source.new;
+          ended = S.ended source.new;
+          faults_before = S.faults source.old;
+          faults_after = S.faults source.new;
+        })
         (record { held_before = K.held out.old; held_after = K.held out.new; faults_before = K.faults out.old; faults_after = K.faults out.new })
         (exit_status result) }
 {

@@ -1,6 +1,6 @@
 -- What is accepted for a well-typed program is within the bounds of a run text.
 use Rattle.std.proofs.Common.{◌≡◌, ℕ, zero, suc, ◌+◌, ◌<◌, ◌≤◌, ◌^◌, Bool, true, false, ◌||◌, List, [], ◌∷◌, ◌++◌, length, refl, sym, ap, subst, arith, ltb-false, length-append}
-use Rattle.std.specs.Prelude.{Some, All, ◌&&◌, slice_get, nat_eq, nat_lt}
+use Rattle.std.specs.Prelude.{Some, All, slice_get, nat_eq, nat_lt}
 use Rattle.std.proofs.lemmas.List.Elements.{All-head, All-tail, All-weaker}
 use Rattle.fut_base.specs.declared.record.Value.{Value}
 use Rattle.fut_base.specs.declared.record.Race.{Race}
@@ -13,24 +13,25 @@ use Rattle.fut_rules.specs.declared.fault.Rule.TheVariants as rule
 use Rattle.fut_rules.specs.declared.names.Variable.{Variable}
 use Rattle.fut_rules.specs.Faults.{fault_if}
 use Rattle.fut_rules.specs.Kinds.{kind_of, size}
-use Rattle.fut_rules.specs.Names.{declares, cells, slots, tasks, is_main}
-use Rattle.fut_rules.specs.Widths.{param_width, params_width, item_width}
-use Rattle.fut_check.specs.Stmts.{type_faults, depth_faults, declared_faults}
-use Rattle.fut_check.specs.Items.{items_of, param_variable, is_over, param_faults, params_faults, has_params, opening_scope, body_faults, head_faults, is_bad_array, item_faults, items_faults, IsWellTyped}
+use Rattle.fut_rules.specs.Names.{declares, cells, slots}
+use Rattle.fut_rules.specs.Widths.{param_width, item_width}
+use Rattle.fut_check.specs.Stmts.{type_faults, declared_faults}
+use Rattle.fut_check.specs.Items.{items_of, param_variable, is_over, param_faults, params_faults, is_bad_array, item_faults, items_faults, IsWellTyped}
 use Rattle.task_machine.specs.Texts.{cell_count, count_cells}
 use Rattle.task_machine.specs.State.{Wish, Answers}
 use Rattle.task_machine.specs.Machine.{Machine, opening, Leads}
 use Rattle.task_machine.proofs.Leading.{leads_further}
 use Rattle.task_machine.proofs.Places.{get_below}
-use Rattle.task_types.specs.Typed.{Text, texts_from, ParamsFit, ArgsFit, any_future}
+use Rattle.task_types.specs.Typed.{ParamsFit, ArgsFit, any_future}
 use Rattle.task_types.specs.Running.{Passes}
 use Rattle.task_types.proofs.Slots.{some_one, no_some, nil_left, nil_right, nil_three, not_found}
 use Rattle.task_types.proofs.Running.{children_fit}
+use Rattle.task_types.proofs.Texts.{good_text}
 use Rattle.run_laws.specs.Laws.{HasCells}
 use Rattle.run_laws.proofs.Typed.{well_typed_has_cells}
 use Rattle.run_laws.proofs.Stuck.{AccessesBelow, wish_below}
-use Rattle.run_record.specs.Records.{IsAction, AreEvents, AreRaces}
-use Rattle.run_check.specs.Within.{IsNumbered, AreNumbered, AcceptedAreWithin}
+use Rattle.run_record.specs.Records.{IsAny, IsActionWith, IsAction, AreNumbered, AreEvents, AreRaces}
+use Rattle.run_check.specs.Within.{AcceptedAreWithin}
 
 or_right : (a b : Bool) → (a || b) ≡ false → b ≡ false
 or_right true b h = absurd (let e : true ≡ false = h in cc)
@@ -54,29 +55,10 @@ values_few globals gives before n (p ∷ ps) vs few f (own, rest, is, holds, siz
     values_few globals gives (before ++ param_variable p ∷ []) (n + param_width p) ps rest (omega arith) (nil_right (param_faults globals before n p) later f) fits in
     omega (arith, ap length is, length-append own rest, sized)
 
-head_params : (globals before : List tree.Item) (n : ℕ) (w : List ℕ) (ps : List tree.Param) (d : ℕ) → head_faults globals before n w ps d ≡ [] → params_faults globals [] (n + 3) ps ≡ []
-head_params globals before n w ps d f =
-    let names = fault_if (declares before w) (n + 1) rule.DoubledName ++ fault_if (nat_eq (tasks before) 256) (n + 1) rule.ConstantLimit in
-    let mains = fault_if (is_main w && has_params ps) (n + 3) rule.MainParameters in
-    nil_right (names ++ mains) (params_faults globals [] (n + 3) ps)
-    (nil_left (names ++ mains ++ params_faults globals [] (n + 3) ps) (depth_faults (n + 3 + params_width ps) d) f)
-
--- the parameters of a task of a program without faults have none
-clean_params : (globals before items : List tree.Item) (n which : ℕ) (t : Text) → items_faults globals before n items ≡ [] → slice_get (texts_from items) which ≡ Some t → (k : ℕ) × (params_faults globals [] k t.params ≡ [])
-clean_params globals before [] n which t f h = absurd (no_some t _ h refl)
-clean_params globals before (tree.CellsOf w m ∷ rest) n which t f h =
-    clean_params globals (before ++ tree.CellsOf w m ∷ []) rest (n + item_width (tree.CellsOf w m)) which t (nil_right (item_faults globals before n (tree.CellsOf w m)) (items_faults globals (before ++ tree.CellsOf w m ∷ []) (n + item_width (tree.CellsOf w m)) rest) f) h
-clean_params globals before (tree.TaskOf w ps d b ∷ rest) n zero t f h =
-    let own = nil_left (item_faults globals before n (tree.TaskOf w ps d b)) (items_faults globals (before ++ tree.TaskOf w ps d b ∷ []) (n + item_width (tree.TaskOf w ps d b)) rest) f in
-    let head = nil_left (head_faults globals before n w ps d) (body_faults globals (opening_scope d ps) (n + 3 + params_width ps + d + 2) b) own in
-    subst (λ (z : Text). (k : ℕ) × (params_faults globals [] k z.params ≡ [])) (some_one _ t h) (n + 3, head_params globals before n w ps d head)
-clean_params globals before (tree.TaskOf w ps d b ∷ rest) n (suc which) t f h =
-    clean_params globals (before ++ tree.TaskOf w ps d b ∷ []) rest (n + item_width (tree.TaskOf w ps d b)) which t (nil_right (item_faults globals before n (tree.TaskOf w ps d b)) (items_faults globals (before ++ tree.TaskOf w ps d b ∷ []) (n + item_width (tree.TaskOf w ps d b)) rest) f) h
-
 args_few : (P : tree.Program) (gives : ℕ → ℕ → Bool) (which : ℕ) (args : List Value) → IsWellTyped P → ArgsFit gives P which args → length args ≤ 16
 args_few P gives which args typed (t, is, fits) =
-    let clean = clean_params (items_of P) [] (items_of P) 0 which t typed is in
-    let few : 0 + length args ≤ 16 = values_few (items_of P) gives [] clean.0 t.params args (omega arith) clean.1 fits in
+    let good = good_text P which t typed is in
+    let few : 0 + length args ≤ 16 = values_few (items_of P) gives [] good.at t.params args (omega arith) good.params fits in
     omega arith
 
 -- a call has at most 16 arguments
@@ -94,11 +76,11 @@ short_by (Syncs _) few = tt
 short_by (Gets _ _ _) few = tt
 short_by (Ends _) few = tt
 
-action_within : (a : Action) → IsNumbered a → IsShort a → IsAction a
+action_within : (a : Action) → IsActionWith IsAny a → IsShort a → IsAction a
 action_within (Reads _ _) k s = k
 action_within (Writes _ _) k s = k
-action_within (Spawns _ _ _ _ _) (code, child, kid, cont, args) s = (code, child, kid, cont, s, args)
-action_within (Creates _ _ _ _ _) (code, child, kid, cont, args) s = (code, child, kid, cont, s, args)
+action_within (Spawns _ _ _ _ _) (code, child, kid, cont, any, args) s = (code, child, kid, cont, s, args)
+action_within (Creates _ _ _ _ _) (code, child, kid, cont, any, args) s = (code, child, kid, cont, s, args)
 action_within (Syncs _) k s = k
 action_within (Gets _ _ _) k s = k
 action_within (Ends _) k s = k

@@ -1,8 +1,7 @@
 //! That the numbers of a history are those of a run text. Nothing is done here: each number has the bounds of its type, and to
 //! look at it is what shows this.
 ghost use Rattle.fut_base.specs.Events.{action_of, event_of, events_of};
-ghost use Rattle.run_record.specs.Records.{AreValues, IsFinish, IsNumber, IsValue};
-ghost use Rattle.run_check.specs.Within.{AreNumbered, IsNumbered, IsNumberedEvent};
+ghost use Rattle.run_record.specs.Records.{AreNumbered, AreValues, IsActionWith, IsAny, IsEventWith, IsFinish, IsNumber, IsValue};
 
 use fut_base::record::{Act, Entry, Finish, History, Value};
 
@@ -32,7 +31,7 @@ fn values_have_bounds(values: &[Value])
 }
 
 fn act_has_bounds(act: &Act)
-    ensures { IsNumbered (action_of act.now) }
+    ensures { IsActionWith IsAny (action_of act.now) }
 {
     match act {
         Act::Read { cell, value } | Act::Write { cell, value } => {
@@ -71,7 +70,7 @@ fn act_has_bounds(act: &Act)
 }
 
 fn entry_has_bounds(entry: &Entry)
-    ensures { IsNumberedEvent (event_of entry.now) }
+    ensures { IsEventWith IsAny (event_of entry.now) }
 {
     number_has_bounds(entry.task);
     number_has_bounds(entry.strand);

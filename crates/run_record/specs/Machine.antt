@@ -1,5 +1,6 @@
 -- The run text as a machine with a stack, one byte at a time.
 use Rattle.std.specs.Prelude.{ℕ, suc, zero, ◌+◌, ◌-◌, ◌*◌, Bool, List, [], ◌∷◌, ◌++◌, map, length, Option, Some, None, cond, nat_eq, nat_lt, nat_le, ◌&&◌, codes, decimal}
+use Rattle.run_record.specs.Records.{most_program, most_entries, most_races}
 use Rattle.run_record.specs.declared.digits.Kind.{Kind}
 use Rattle.run_record.specs.declared.digits.Kind.TheVariants as kind
 
@@ -8,9 +9,9 @@ abbrev pub bound : Kind → ℕ
 bound kind.Plain = 4294967295
 bound kind.Positive = 9223372036854775807
 bound kind.Negative = 9223372036854775808
-bound kind.Bytes = 1048576
-bound kind.Entries = 1000000
-bound kind.Races = 65536
+bound kind.Bytes = most_program
+bound kind.Entries = most_entries
+bound kind.Races = most_races
 
 -- what is still due
 pub data Symbol : Type 0 where

@@ -175,6 +175,8 @@ pub record IsGoodText (globals : List tree.Item) (t : Text) : Type 0 where
   pub apart : AreApart globals (variables_of t)
   pub starts : AllBreakNone globals t (param_variables t.params) (stmts_of t.body)
   pub returns : t.depth ≢ 0 → EndsWithReturn (stmts_of t.body)
+  pub at : ℕ
+  pub params : params_faults globals [] at t.params ≡ []
 
 and_false : (a b : Bool) → (a && b) ≡ false → a ≡ true → b ≡ false
 and_false true b h e = h
@@ -198,6 +200,8 @@ task_good globals before n w ps d b f =
       apart = block_apart globals (opening_scope d ps) (n + 3 + params_width ps + d + 2) b ps_apart block;
       starts = block_none globals (record { params = ps; depth = d; body = b }) (opening_scope d ps) (n + 3 + params_width ps + d + 2) (param_variables ps) b refl (λ x i. i) (λ x i. among_right x (param_variables ps) (declared_in_block b) i) block;
       returns = λ ne. body_ends b (not-false (ends_with_return b) (and_false (nat_lt 0 d) (not (ends_with_return b)) last (positive d ne)));
+      at = n + 3;
+      params = params;
     }
 
 pub good_among : (globals before items : List tree.Item) (n which : ℕ) (t : Text) → items_faults globals before n items ≡ [] → slice_get (texts_from items) which ≡ Some t → IsGoodText globals t

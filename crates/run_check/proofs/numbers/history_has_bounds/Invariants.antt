@@ -1,7 +1,7 @@
 use Rattle.std.proofs.Common.{drop}
 use Rattle.std.specs.Prelude.{map}
 use Rattle.fut_base.specs.Events.{event_of}
-use Rattle.run_check.specs.Within.{AreNumbered}
+use Rattle.run_record.specs.Records.{AreNumbered}
 use Rattle.run_check.proofs.numbers.history_has_bounds.Given as goal
 
 abbrev pub invariant-loop-entry : goal.invariant-loop-entry

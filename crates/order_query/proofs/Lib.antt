@@ -1,0 +1,9 @@
+pub mod Asking
+pub mod Counting
+pub mod Growing
+pub mod Keeping
+pub mod Landing
+pub mod Puts
+pub mod Rising
+pub mod Starts
+pub mod Writing

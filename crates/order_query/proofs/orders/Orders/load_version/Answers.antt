@@ -1,0 +1,15 @@
+use Rattle.std.proofs.Common.{ℕ, List, sym, subst}
+use mathlib.Core.Option.{none}
+use Rattle.atomic_table.specs.Table.{Allows, step}
+use Rattle.order_query.specs.Rule.{OrderRule}
+use Rattle.order_query.specs.Plays.{LoadedVersion}
+use Rattle.order_query.proofs.Keeping.{loads_version}
+use Rattle.order_query.proofs.orders.Orders.load_version.Goals as goal
+
+pub load-requires-clause-rule : goal.load-requires-clause-rule
+load-requires-clause-rule g c =
+    let me = c.args.seat.now.me in
+    let id = c.args.seat.now.id in
+    let slots = c.args.self.now.slots in
+    let P : List (ℕ × Unit {0}) → Type 0 = λ taken. Allows OrderRule slots id (me.0, taken) 0 (λ n. n) (LoadedVersion (step slots 0 0 0 none) (me.0, taken)) in
+    subst P (sym c.requires.alone) (loads_version slots id me.0 c.requires.reads)
