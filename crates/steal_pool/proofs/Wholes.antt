@@ -4,7 +4,7 @@ use Rattle.std.specs.List.{list_any}
 use Rattle.std.proofs.lemmas.List.{length-map}
 use Rattle.steal_pool.specs.declared.worker.Worker.{Worker}
 use Rattle.steal_pool.specs.Workers.{HasNothingLeft}
-use Rattle.steal_pool.specs.AllWorkers.{AreGathered, AllMoved, AreStarted, RanAll, IsOver, self_of}
+use Rattle.steal_pool.specs.AllWorkers.{AllMoved, AreStarted, RanAll, IsOver, self_of}
 use Rattle.steal_pool.specs.Runs.{TurnedOrLeft}
 use Rattle.steal_pool.proofs.Lists.{slice_back}
 use Rattle.steal_pool.proofs.Starts.{no_turns, begun}

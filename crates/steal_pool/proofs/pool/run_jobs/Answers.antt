@@ -1,4 +1,4 @@
-use Rattle.std.proofs.Common.{◌≡◌, List, All, [], length, map, sym, ap, ◌∙◌, subst, arith}
+use Rattle.std.proofs.Common.{List, All, length, sym, ap, subst, arith}
 use Rattle.std.proofs.lemmas.List.{length-map}
 use Rattle.steal_pool.specs.declared.worker.Worker.{Worker}
 use Rattle.steal_pool.specs.Workers.{LeavesOnlyIfStopped}
