@@ -1,5 +1,5 @@
 //! A record checked against the program that it names.
-ghost use Rattle.std.specs.Prelude.{map};
+ghost use Rattle.std.specs.Prelude.{◌<◌, ◌^◌, length, map};
 ghost use Rattle.fut_base.specs.Events.{event_of, events_of};
 ghost use Rattle.fut_syntax.specs.Trees as tree;
 ghost use Rattle.fut_check.specs.Items.{IsWellTyped};
@@ -29,6 +29,7 @@ pub enum RunFault {
 /// The run that has made these entries.
 fn replay(alloc: Global, code: &Code, entries: &[Entry]) -> Result<Replay, RunFault>
     requires program { (P : tree.Program) × IsWellTyped P × IsCodeOf P code.now }
+    requires few { length entries.now < 2 ^ 29 }
     ensures { (P : tree.Program) → IsWellTyped P → IsCodeOf P code.now → IsReplayed P code.now (map event_of entries.now) result }
 {
     let Ok(mut run) = Replay::start(alloc, code) else {
@@ -48,11 +49,13 @@ fn replay(alloc: Global, code: &Code, entries: &[Entry]) -> Result<Replay, RunFa
     Ok(run)
 }
 
-/// Whether a record is one of this program: its entries are legal, its races are their report, and its finish holds of them.
+/// Whether a record of fewer than 2^29 entries is one of this program: its entries are legal, its races are their report, and
+/// its finish holds of them.
 ///
-/// It stops at the first entry that is no step of the definition. `NoMemory` is want of memory, or more than 2^29 entries.
+/// It stops at the first entry that is no step of the definition.
 pub fn check_run(alloc: Global, code: &Code, run: &RunText) -> Result<(), RunFault>
     requires program { (P : tree.Program) × IsWellTyped P × IsCodeOf P code.now }
+    requires few { length run.now.history.items < 2 ^ 29 }
     ensures { (P : tree.Program) → IsWellTyped P → IsCodeOf P code.now → IsChecked P (events_of run.now.history) run.now.races.items run.now.finish result }
 {
     let mut made = replay(alloc, code, run.history.as_slice())?;

@@ -106,7 +106,7 @@ fn entries_of(
     Ok(history)
 }
 
-/// The entry at which a record of these entries, races and finish is refused; `None` where it is accepted.
+/// The entry at which a record of fewer than 1,000 entries, with these races and finish, is refused; `None` where it is accepted.
 fn refused(
     alloc: Global,
     code: &Code,
@@ -116,6 +116,9 @@ fn refused(
 ) -> Result<Option<u32>, NoMemory>
     requires { (P : tree.Program) × IsWellTyped P × IsCodeOf P code.now }
 {
+    if history.len() >= 1000 {
+        return Err(NoMemory);
+    }
     let run = RunText {
         program: Listing::make(alloc),
         history,

@@ -31,9 +31,6 @@ use task_code::task::Wish;
 /// The greatest number of local steps of a task in a row.
 const MOST_STEPS: u32 = 1_000_000;
 
-/// The greatest number of entries of a run: 2^29.
-pub(crate) const MOST_ENTRIES: u32 = 536_870_912;
-
 /// What the next event of a task is, or why there is none.
 #[derive(Drop)]
 pub enum Next {

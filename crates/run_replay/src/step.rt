@@ -1,5 +1,5 @@
 //! A given event made by a run.
-ghost use Rattle.std.specs.Prelude.{List};
+ghost use Rattle.std.specs.Prelude.{◌<◌, ◌^◌, List};
 ghost use Rattle.fut_base.specs.declared.event.Event.{Event};
 ghost use Rattle.fut_base.specs.Events.{event_of};
 ghost use Rattle.fut_syntax.specs.Trees as tree;
@@ -7,7 +7,7 @@ ghost use Rattle.task_machine.specs.Machine.{Machine};
 ghost use Rattle.run_replay.specs.Replays.{IsReplayOf, IsSomeReplay};
 ghost use Rattle.run_replay.specs.Steps.{IsStepped};
 
-use crate::replay::{MOST_ENTRIES, Replay, is_long};
+use crate::replay::{Replay, is_long};
 use crate::same::same_act;
 use fut_base::record::Entry;
 use task_code::code::Code;
@@ -18,18 +18,17 @@ pub enum StepStop {
     /// No step of the definition is this event now.
     #[error("not legal")]
     NotLegal,
-    /// Want of memory, or 2^29 entries were made.
     #[error("no memory")]
     NoMemory,
 }
 
 impl Replay {
-    /// Makes this event.
+    /// Makes this event, after fewer than 2^29 entries.
     ///
-    /// Where it is made it is a step of the definition; where it is `NotLegal`, no step is this event. `NoMemory` is want of
-    /// memory, or 2^29 entries were made: the run takes no more. An `Err` changes nothing.
+    /// Where it is made it is a step of the definition; where it is `NotLegal`, no step is this event. An `Err` changes nothing.
     pub fn step(&mut self, code: &Code, entry: &Entry) -> Result<(), StepStop>
         requires known { IsSomeReplay code.now self.old }
+        requires few { self.old.entries < 2 ^ 29 }
         ensures { (P : tree.Program) (h : List Event) (m : Machine) → IsReplayOf P code.now h self.old m → IsStepped P code.now h m (event_of entry.now) self.new result }
     {
         let task = entry.task;
@@ -45,9 +44,6 @@ impl Replay {
         }
         if let Some(_) = self.waits(task, wish) {
             return Err(StepStop::NotLegal);
-        }
-        if self.entries() >= MOST_ENTRIES {
-            return Err(StepStop::NoMemory);
         }
         let Ok(act) = self.act_of(code, task, wish) else {
             return Err(StepStop::NoMemory);

@@ -36,11 +36,14 @@ fn code_of(alloc: Global, text: &[u8]) -> Result<Code, NoMemory>
     }
 }
 
-/// What a run answers to an event.
+/// What a run of fewer than 1,000 entries answers to an event.
 fn answer(run: &mut Replay, code: &Code, entry: &Entry) -> Result<(), StepStop>
     requires { IsSomeReplay code.now run.old }
     ensures { IsSomeReplay code.now run.new }
 {
+    if run.entries() >= 1000 {
+        return Err(StepStop::NoMemory);
+    }
     run.step(code, entry)
 }
 

@@ -1,4 +1,4 @@
-use Rattle.std.proofs.Common.{◌∙◌, sym, ap, length}
+use Rattle.std.proofs.Common.{◌∙◌, sym, ap, length, arith}
 use Rattle.std.proofs.lemmas.List.{length-map}
 use Rattle.fut_base.specs.Events.{event_of, events_of}
 use Rattle.fut_driver.specs.Due.{legal_text}
@@ -17,3 +17,9 @@ returns-in-Ok-legal_line c = λ a words read.
     let due = c.in-Ok-legal_line.ensures ∙ (ap (λ n. legal_text n c.len-2.result) count ∙ ap (legal_text (length (events_of run.history))) c.len-2.ensures) in
     rw c.ending.ensures
     (record_verdict a c.args.bytes.now P (events_of run.history) run.races.items run.finish c.in-Ok-legal_line.text.items of accepted due words read)
+
+pub check_run-requires-clause-few : goal.check_run-requires-clause-few
+check_run-requires-clause-few c =
+    let few = c.requires.record.within.few in
+    let same = length-map c.args.run.history.items event_of in
+    omega (arith, few, same)

@@ -1,5 +1,6 @@
 use Rattle.std.proofs.Common.{◌∙◌, List, length, take, map, refl, sym, subst, arith}
 use Rattle.std.specs.Prelude.{Err}
+use Rattle.std.proofs.lemmas.List.{length-map, length-take}
 use Rattle.std.proofs.lemmas.Option.{slice_get_read}
 use Rattle.fut_base.specs.declared.event.Event.{Event}
 use Rattle.fut_base.specs.Events.{event_of}
@@ -31,3 +32,15 @@ pub returns : goal.returns
 returns c = λ P typed of.
     let k = c.loop-entry.invariant P typed of in
     (k.0, subst (λ (h : List Event). IsReplayOf P c.args.code.now h c.loop-entry.run k.0) (taken_all c.args.entries.now c.loop-entry.entry-index (omega arith)) k.1)
+
+pub step-requires-clause-few : goal.step-requires-clause-few
+step-requires-clause-few c =
+    let (P, typed, of) = c.requires.program in
+    let xs = c.args.entries.now in
+    let i = c.loop-entry.entry-index in
+    let k = c.loop-entry.invariant P typed of in
+    let count = k.1.entries in
+    let same = length-map (take i xs) event_of in
+    let made = length-take i xs in
+    let few = c.requires.few in
+    omega (arith, count, same, made, few)
