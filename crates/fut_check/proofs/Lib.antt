@@ -2,6 +2,7 @@ pub mod Bodies
 pub mod Clean
 pub mod Counts
 pub mod First
+pub mod Numbers
 pub mod Once
 pub mod Reading
 pub mod Statements

@@ -1,5 +1,5 @@
 -- What is read of a text can be checked.
-use Rattle.std.proofs.Common.{◌≡◌, ℕ, ◌+◌, ◌<◌, ◌≤◌, List, [], ◌∷◌, ◌++◌, length, refl, sym, ap, ◌∙◌, arith, length-append}
+use Rattle.std.proofs.Common.{◌≡◌, ℕ, ◌+◌, ◌<◌, ◌≤◌, List, [], ◌∷◌, ◌++◌, length, refl, sym, ap, ◌∙◌, subst, arith, length-append}
 use Rattle.std.specs.Prelude.{◌^◌, Some, Ok}
 use Rattle.fut_tokens.specs.declared.token.Token.{Token}
 use Rattle.fut_syntax.specs.declared.tree.Program as declared
@@ -8,6 +8,7 @@ use Rattle.fut_tokens.specs.Lexed.{tokens_of, places_of}
 use Rattle.fut_syntax.specs.Texts.{Parses}
 use Rattle.fut_tokens.proofs.Cuts.{tokens_once}
 use Rattle.fut_check.specs.Checks.{HasPlaces}
+use Rattle.fut_check.proofs.Numbers.{AreInRange, cut_in_range, fit_program}
 
 some_bytes : (bs : List ℕ) (x : Token) → token_of bs ≡ Some x → 0 < length bs
 some_bytes [] x h = cc
@@ -34,4 +35,5 @@ read_can_be_checked text p small ((P, is, program), (tokens, cut), comments) =
       is = is;
       places = count ∙ ap length (sym same.0) ∙ ap length (sym program.whole.0);
       few = omega (arith, count, ap length cut.are, few_tokens cut.pieces text cut.cut);
+      numbers = fit_program P (subst AreInRange (sym (program.whole.0 ∙ (same.0 ∙ cut.are))) (cut_in_range cut.pieces text cut.cut));
     }

@@ -1,12 +1,13 @@
 -- A well-typed text of fewer than 2^32 tokens has what the compiler asks for.
 use Rattle.std.proofs.Common.{◌≡◌, ℕ, zero, suc, ◌+◌, ◌*◌, ◌<◌, ◌≤◌, ◌^◌, Bool, true, false, List, [], ◌∷◌, ◌++◌, length, refl, sym, ap, ◌∙◌, subst, arith, length-append, append_assoc, add-one, ltb-false, get_or, drop, eq-eqb}
-use Rattle.std.specs.Prelude.{Some, None, nat_eq, nat_lt, ◌||◌, slice_index, IsSomeAnd}
+use Rattle.std.specs.Prelude.{Some, None, nat_eq, nat_lt, ◌||◌, ◌&&◌, slice_index, IsSomeAnd}
 use Rattle.fut_syntax.specs.Trees as tree
 use Rattle.fut_syntax.specs.declared.tree.Item as code
 use Rattle.fut_syntax.specs.declared.tree.Item.TheVariants as item
+use Rattle.fut_syntax.specs.declared.tree.Expr.{Expr}
 use Rattle.fut_syntax.specs.declared.tree.Stmt.{Stmt}
 use Rattle.fut_syntax.specs.declared.tree.Param.{Param}
-use Rattle.fut_syntax.specs.Views.{type_tree, param_tree, params_tree, stmt_tree, block_tree, item_tree, items_tree, program_tree}
+use Rattle.fut_syntax.specs.Views.{expr_tree, args_tree, type_tree, param_tree, params_tree, stmt_tree, block_tree, item_tree, items_tree, program_tree}
 use Rattle.fut_rules.specs.declared.fault.Rule.TheVariants as rule
 use Rattle.fut_rules.specs.declared.names.Variable.{Variable}
 use Rattle.fut_rules.specs.Faults.{broken, fault_if}
@@ -14,6 +15,8 @@ use Rattle.fut_rules.specs.Kinds.{kind_of, init_need, size}
 use Rattle.fut_rules.specs.Names.{Scope, cells, declares, declaration, means_task, kind_named, slots, variable}
 use Rattle.fut_rules.specs.Inits.{call_rule, call_faults, args_faults, tested_params, init_faults}
 use Rattle.fut_rules.specs.Widths.{expr_width, init_width, type_width, stmt_width, block_width, tail_width, param_width, each_param_width, params_width, item_width, items_width}
+use Rattle.fut_check.specs.Numbers.{expr_fits, each_fits, init_fits, stmt_fits, block_fits, tail_fits, items_fit}
+use Rattle.fut_check.specs.Checks.{some_fit}
 use Rattle.fut_check.specs.Stmts.{type_faults, depth_faults, is_bad_length, is_handle, declared_faults, assigned_rule, value_need, scope_after, with_declared, declared_in_block, stmt_faults, block_faults, tail_faults}
 use Rattle.fut_check.specs.Items.{param_variable, is_over, param_faults, params_faults, opening_scope, body_faults, head_faults, is_bad_array, item_faults, items_faults, IsWellTyped}
 use Rattle.task_machine.specs.Variables.{size_of}
@@ -30,6 +33,10 @@ use Rattle.task_code.specs.Flat.{Place, AreGiven}
 use Rattle.task_code.specs.Serving.{HasVariable, IsTask, ServesInit, ServesStmt, ServesBlock, ServesTail, ServesParams, values_for, instructions_for, instructions_in, instructions_else, IsSound, AreSound}
 
 -- ---- types
+
+and_both : (a b : Bool) → (a && b) ≡ true → (a ≡ true) × (b ≡ true)
+and_both true b h = (refl, h)
+and_both false b h = absurd (let e : false ≡ true = h in cc)
 
 or_false : (a b : Bool) → (a || b) ≡ false → (a ≡ false) × (b ≡ false)
 or_false true b h = absurd (let e : true ≡ false = h in cc)
@@ -62,44 +69,49 @@ is_task items vis n w es f =
     (0 + r.place, r.number)
 
 module _ (g : Place) (vis : List Variable) where
-  serves_init : (n : ℕ) (needed : _) (i : tree.Init) → init_faults g.items vis n needed i ≡ [] → HasInit g.names i → ServesInit g i
-  serves_init n needed (tree.GetOf w) f h = (h.number, h.found)
-  serves_init n needed (tree.CreateOf w es) f h = is_task g.items vis (n + 1) w es (nil_left (call_faults g.items vis (n + 1) w es) _ f)
-  serves_init n needed (tree.Index w e) f h = tt
-  serves_init n needed (tree.Value e) f h = tt
+  serves_init : (n : ℕ) (needed : _) (i : tree.Init) → init_faults g.items vis n needed i ≡ [] → HasInit g.names i → init_fits i ≡ true → ServesInit g i
+  serves_init n needed (tree.GetOf w) f h k = (h.number, h.found)
+  serves_init n needed (tree.CreateOf w es) f h k = (is_task g.items vis (n + 1) w es (nil_left (call_faults g.items vis (n + 1) w es) _ f), k)
+  serves_init n needed (tree.Index w e) f h k = k
+  serves_init n needed (tree.Value e) f h k = k
 
 -- ---- statements
 
 mutual
-  serves_stmt : (g : Place) (s : Scope) (n : ℕ) (x : tree.Stmt) → stmt_faults g.items s n x ≡ [] → HasStmt g.names x → ServesStmt g x
-  serves_stmt g s n (tree.Declare w v) f h =
+  serves_stmt : (g : Place) (s : Scope) (n : ℕ) (x : tree.Stmt) → stmt_faults g.items s n x ≡ [] → HasStmt g.names x → stmt_fits x ≡ true → ServesStmt g x
+  serves_stmt g s n (tree.Declare w v) f h k =
       let parts = nil_three (declared_faults g.items s.declared (n + 1) (variable w v)) (type_faults (n + 3) v) (fault_if (is_handle (kind_of v)) (n + 1) rule.NoValue) f in
       has_variable g.names w (n + 3) v parts.1 h
-  serves_stmt g s n (tree.Define w v i) f h =
+  serves_stmt g s n (tree.Define w v i) f h k =
       let parts = nil_three (declared_faults g.items s.declared (n + 1) (variable w v)) (type_faults (n + 3) v) (init_faults g.items s.visible (n + 3 + type_width v + 1) (Some (init_need (kind_of v))) i) f in
-      (has_variable g.names w (n + 3) v parts.1 h.0, serves_init g s.visible (n + 3 + type_width v + 1) (Some (init_need (kind_of v))) i parts.2 h.1)
-  serves_stmt g s n (tree.Assign w i) f h =
+      (has_variable g.names w (n + 3) v parts.1 h.0, serves_init g s.visible (n + 3 + type_width v + 1) (Some (init_need (kind_of v))) i parts.2 h.1 k)
+  serves_stmt g s n (tree.Assign w i) f h k =
       let part = nil_right (broken (assigned_rule (kind_named s.visible w)) n) (init_faults g.items s.visible (n + 2) (value_need (kind_named s.visible w)) i) f in
-      ((h.0.number, h.0.found), serves_init g s.visible (n + 2) (value_need (kind_named s.visible w)) i part h.1)
-  serves_stmt g s n (tree.Store w e x) f h = tt
-  serves_stmt g s n (tree.SpawnOf w es) f h = is_task g.items s.visible (n + 1) w es f
-  serves_stmt g s n tree.SyncAll f h = tt
-  serves_stmt g s n (tree.If' e b o) f h =
+      ((h.0.number, h.0.found), serves_init g s.visible (n + 2) (value_need (kind_named s.visible w)) i part h.1 k)
+  serves_stmt g s n (tree.Store w e x) f h k = and_both (expr_fits e) (expr_fits x) k
+  serves_stmt g s n (tree.SpawnOf w es) f h k = (is_task g.items s.visible (n + 1) w es f, k)
+  serves_stmt g s n tree.SyncAll f h k = tt
+  serves_stmt g s n (tree.If' e b o) f h k =
       let parts = if_parts g.items s n e b o f in
-      (serves_block g s (n + 1 + expr_width e + 1) b parts.block h.0, serves_tail g (with_declared s (declared_in_block b)) (n + 1 + expr_width e + 1 + block_width b + 1) o parts.tail h.1)
-  serves_stmt g s n (tree.While' e b) f h = serves_block g s (n + 1 + expr_width e + 1) b (while_block g.items s n e b f) h
-  serves_stmt g s n (tree.Return' e) f h = tt
+      let fits = and_both (expr_fits e && block_fits b) (tail_fits o) k in
+      let front = and_both (expr_fits e) (block_fits b) fits.0 in
+      (front.0, serves_block g s (n + 1 + expr_width e + 1) b parts.block h.0 front.1, serves_tail g (with_declared s (declared_in_block b)) (n + 1 + expr_width e + 1 + block_width b + 1) o parts.tail h.1 fits.1)
+  serves_stmt g s n (tree.While' e b) f h k =
+      let fits = and_both (expr_fits e) (block_fits b) k in
+      (fits.0, serves_block g s (n + 1 + expr_width e + 1) b (while_block g.items s n e b f) h fits.1)
+  serves_stmt g s n (tree.Return' e) f h k = k
 
-  pub serves_block : (g : Place) (s : Scope) (n : ℕ) (b : tree.Block) → block_faults g.items s n b ≡ [] → HasBlock g.names b → ServesBlock g b
-  serves_block g s n tree.Done f h = tt
-  serves_block g s n (tree.Then x b) f h = (
-    serves_stmt g s n x (nil_left (stmt_faults g.items s n x) (block_faults g.items (scope_after s x) (n + stmt_width x) b) f) h.0,
-    serves_block g (scope_after s x) (n + stmt_width x) b (nil_right (stmt_faults g.items s n x) (block_faults g.items (scope_after s x) (n + stmt_width x) b) f) h.1,
-  )
+  pub serves_block : (g : Place) (s : Scope) (n : ℕ) (b : tree.Block) → block_faults g.items s n b ≡ [] → HasBlock g.names b → block_fits b ≡ true → ServesBlock g b
+  serves_block g s n tree.Done f h k = tt
+  serves_block g s n (tree.Then x b) f h k =
+      let fits = and_both (stmt_fits x) (block_fits b) k in (
+        serves_stmt g s n x (nil_left (stmt_faults g.items s n x) (block_faults g.items (scope_after s x) (n + stmt_width x) b) f) h.0 fits.0,
+        serves_block g (scope_after s x) (n + stmt_width x) b (nil_right (stmt_faults g.items s n x) (block_faults g.items (scope_after s x) (n + stmt_width x) b) f) h.1 fits.1,
+      )
 
-  serves_tail : (g : Place) (s : Scope) (n : ℕ) (o : tree.Tail) → tail_faults g.items s n o ≡ [] → HasTail g.names o → ServesTail g o
-  serves_tail g s n tree.NoElse f h = tt
-  serves_tail g s n (tree.ElseOf b) f h = serves_block g s (n + 2) b f h
+  serves_tail : (g : Place) (s : Scope) (n : ℕ) (o : tree.Tail) → tail_faults g.items s n o ≡ [] → HasTail g.names o → tail_fits o ≡ true → ServesTail g o
+  serves_tail g s n tree.NoElse f h k = tt
+  serves_tail g s n (tree.ElseOf b) f h k = serves_block g s (n + 2) b f h k
 
 -- ---- parameters
 
@@ -182,12 +194,13 @@ params_counted (p ∷ ps) = let e = each ps in omega (arith, e)
 -- ---- items
 
 module _ (globals : List tree.Item) where
-  pub are_sound : (before : List tree.Item) (n : ℕ) (items : List tree.Item) → items_faults globals before n items ≡ [] → items_width items < 2 ^ 32 → AreSound globals items
-  are_sound before n [] f few = tt
-  are_sound before n (tree.CellsOf w m ∷ rest) f few =
+  pub are_sound : (before : List tree.Item) (n : ℕ) (items : List tree.Item) → items_faults globals before n items ≡ [] → items_width items < 2 ^ 32 → items_fit items ≡ true → AreSound globals items
+  are_sound before n [] f few k = tt
+  are_sound before n (tree.CellsOf w m ∷ rest) f few k =
       are_sound (before ++ tree.CellsOf w m ∷ []) (n + item_width (tree.CellsOf w m)) rest
-      (nil_right (item_faults globals before n (tree.CellsOf w m)) (items_faults globals (before ++ tree.CellsOf w m ∷ []) (n + item_width (tree.CellsOf w m)) rest) f) (omega (arith, few))
-  are_sound before n (tree.TaskOf w ps d b ∷ rest) f few =
+      (nil_right (item_faults globals before n (tree.CellsOf w m)) (items_faults globals (before ++ tree.CellsOf w m ∷ []) (n + item_width (tree.CellsOf w m)) rest) f) (omega (arith, few)) k
+  are_sound before n (tree.TaskOf w ps d b ∷ rest) f few k =
+      let fits = and_both (block_fits b) (items_fit rest) k in
       let i = tree.TaskOf w ps d b in
       let own = nil_left (item_faults globals before n i) (items_faults globals (before ++ i ∷ []) (n + item_width i) rest) f in
       let later = nil_right (item_faults globals before n i) (items_faults globals (before ++ i ∷ []) (n + item_width i) rest) f in
@@ -202,8 +215,9 @@ module _ (globals : List tree.Item) where
           params = nil_right (_) (params_faults globals [] (n + 3) ps) (nil_left (_) (_) head);
           body = nil_left (block_faults globals (opening_scope d ps) start b) (_) body;
           few = omega (arith, few, count);
+          numbers = fits.0;
         },
-        are_sound (before ++ i ∷ []) (n + item_width i) rest later (omega (arith, few)),
+        are_sound (before ++ i ∷ []) (n + item_width i) rest later (omega (arith, few)) fits.1,
       )
 
   pub have_cells : (before : List tree.Item) (n : ℕ) (items : List tree.Item) → items_faults globals before n items ≡ [] → EachHasCells items
@@ -268,14 +282,18 @@ pub record HasWhole (items : List tree.Item) : Type 0 where
   pub tasks : length (tasks_from items) < 2 ^ 32
   pub sound : AreSound items items
 
-pub has_whole : (items : List code.Item) → IsSomeAnd (program_tree items) IsWellTyped → items_width (items_tree items) < 2 ^ 32 → HasWhole (items_tree items)
-has_whole items h few =
+numbers_in : (items : List code.Item) → some_fit (program_tree items) ≡ true → items_fit (items_tree items) ≡ true
+numbers_in [] h = refl
+numbers_in (i ∷ items) h = h
+
+pub has_whole : (items : List code.Item) → IsSomeAnd (program_tree items) IsWellTyped → items_width (items_tree items) < 2 ^ 32 → some_fit (program_tree items) ≡ true → HasWhole (items_tree items)
+has_whole items h few numbers =
     let is = items_tree items in
     let f = no_fault items h in
     let c = few_cells is [] 0 is (omega arith) f in
     let a = arrays_counted 0 is in
     let t = tasks_counted is in
-    record { cells = omega (arith, c); some = have_cells is [] 0 is f; arrays = omega (arith, a, few); tasks = omega (arith, t, few); sound = are_sound is [] 0 is f few }
+    record { cells = omega (arith, c); some = have_cells is [] 0 is f; arrays = omega (arith, a, few); tasks = omega (arith, t, few); sound = are_sound is [] 0 is f few (numbers_in items numbers) }
 
 -- ---- one place of a list
 
@@ -299,7 +317,7 @@ module _ (items : List tree.Item) (ps : List tree.Param) (b : tree.Block) (x : I
 
   pub body_is_served : (names given : List Name) → given ≡ names → HasBlock names b → ServesBlock (record { items = items; names = given }) b
   body_is_served names given same h =
-      subst (λ l. ServesBlock (record { items = items; names = l }) b) (sym same) (serves_block (record { items = items; names = names }) x.scope x.start b x.body h)
+      subst (λ l. ServesBlock (record { items = items; names = l }) b) (sym same) (serves_block (record { items = items; names = names }) x.scope x.start b x.body h x.numbers)
 
   pub few_instructions : instructions_in b + 1 < 2 ^ 32
   few_instructions = let k = block_counts b in let few = x.few in omega (arith, k.1, few)
@@ -356,3 +374,10 @@ sound_at globals [] i x w ps d b lt read is h = absurd (omega arith)
 sound_at globals (y ∷ items) zero x w ps d b lt read is h = (subst (λ (z : code.Item). AreSound globals (item_tree z ∷ items_tree items)) (sym read ∙ is) h).0
 sound_at globals (item.Cells v k ∷ items) (suc i) x w ps d b lt read is h = sound_at globals items i x w ps d b (omega arith) read is h
 sound_at globals (item.Task v qs e c ∷ items) (suc i) x w ps d b lt read is h = sound_at globals items i x w ps d b (omega arith) read is h.1
+
+-- ---- one argument
+
+pub fits_at : (es : List Expr) (i : ℕ) (e : Expr) → i < length es → e ≡ get_or es i e → each_fits (args_tree es) ≡ true → expr_fits (expr_tree e) ≡ true
+fits_at [] i e lt read h = absurd (omega arith)
+fits_at (x ∷ es) zero e lt read h = ap (λ y. expr_fits (expr_tree y)) read ∙ (and_both (expr_fits (expr_tree x)) (each_fits (args_tree es)) h).0
+fits_at (x ∷ es) (suc i) e lt read h = fits_at es i e (omega arith) read (and_both (expr_fits (expr_tree x)) (each_fits (args_tree es)) h).1

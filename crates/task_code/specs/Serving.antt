@@ -1,8 +1,10 @@
--- What the compiler asks of a text: each variable has its number and its room, each called task is there, and all of it can be counted.
-use Rattle.std.specs.Prelude.{◌≡◌, ℕ, ◌+◌, ◌<◌, ◌^◌, List, [], ◌∷◌, length, Some}
+-- What the compiler asks of a text: each variable has its number and its room, each called task is there,
+-- its numbers have 63 bits, and all of it can be counted.
+use Rattle.std.specs.Prelude.{◌≡◌, ℕ, ◌+◌, ◌<◌, ◌^◌, true, List, [], ◌∷◌, length, Some}
 use Rattle.fut_syntax.specs.Trees as tree
 use Rattle.fut_rules.specs.Names.{Scope}
 use Rattle.fut_rules.specs.Widths.{block_width}
+use Rattle.fut_check.specs.Numbers.{expr_fits, each_fits, block_fits}
 use Rattle.fut_check.specs.Stmts.{block_faults}
 use Rattle.fut_check.specs.Items.{params_faults}
 use Rattle.task_machine.specs.Variables.{size_of}
@@ -28,9 +30,9 @@ IsTask items w = (n : ℕ) × (find_task items w ≡ Some n)
 
 abbrev pub ServesInit : Place → tree.Init → Type 0
 ServesInit g (tree.GetOf w) = IsVariable g.names w
-ServesInit g (tree.CreateOf w es) = IsTask g.items w
-ServesInit g (tree.Index w e) = Unit {0}
-ServesInit g (tree.Value e) = Unit {0}
+ServesInit g (tree.CreateOf w es) = IsTask g.items w × (each_fits es ≡ true)
+ServesInit g (tree.Index w e) = expr_fits e ≡ true
+ServesInit g (tree.Value e) = expr_fits e ≡ true
 
 -- what a statement asks for is there
 abbrev mutual
@@ -38,12 +40,12 @@ abbrev mutual
   ServesStmt g (tree.Declare w type) = HasVariable g.names w type
   ServesStmt g (tree.Define w type init) = HasVariable g.names w type × ServesInit g init
   ServesStmt g (tree.Assign w init) = IsVariable g.names w × ServesInit g init
-  ServesStmt g (tree.Store w e f) = Unit {0}
-  ServesStmt g (tree.SpawnOf w es) = IsTask g.items w
+  ServesStmt g (tree.Store w e f) = (expr_fits e ≡ true) × (expr_fits f ≡ true)
+  ServesStmt g (tree.SpawnOf w es) = IsTask g.items w × (each_fits es ≡ true)
   ServesStmt g tree.SyncAll = Unit {0}
-  ServesStmt g (tree.If' e b t) = ServesBlock g b × ServesTail g t
-  ServesStmt g (tree.While' e b) = ServesBlock g b
-  ServesStmt g (tree.Return' e) = Unit {0}
+  ServesStmt g (tree.If' e b t) = (expr_fits e ≡ true) × ServesBlock g b × ServesTail g t
+  ServesStmt g (tree.While' e b) = (expr_fits e ≡ true) × ServesBlock g b
+  ServesStmt g (tree.Return' e) = expr_fits e ≡ true
 
   pub ServesBlock : Place → tree.Block → Type 0
   ServesBlock g tree.Done = Unit {0}
@@ -89,7 +91,7 @@ abbrev mutual
   instructions_else tree.NoElse = 0
   instructions_else (tree.ElseOf b) = instructions_in b
 
--- a task of a text breaks no rule, and has fewer than 2^32 tokens
+-- a task of a text breaks no rule, has fewer than 2^32 tokens, and its numbers have 63 bits
 pub record IsSound (items : List tree.Item) (ps : List tree.Param) (b : tree.Block) : Type 0 where
   pub scope : Scope
   pub head : ℕ
@@ -97,6 +99,7 @@ pub record IsSound (items : List tree.Item) (ps : List tree.Param) (b : tree.Blo
   pub params : params_faults items [] head ps ≡ []
   pub body : block_faults items scope start b ≡ []
   pub few : length ps + block_width b + 1 < 2 ^ 32
+  pub numbers : block_fits b ≡ true
 
 -- so is each task among some items
 abbrev pub AreSound : List tree.Item → List tree.Item → Type 0

@@ -1,5 +1,5 @@
 //! Statements become instructions.
-ghost use Rattle.std.specs.Prelude.{ℕ, ◌≡◌, ◌<◌, ◌^◌, ◌∷◌, ◌++◌, [], ◌+◌, length, IfOk, OnOk, map, Some};
+ghost use Rattle.std.specs.Prelude.{ℕ, ◌≡◌, ◌<◌, ◌^◌, ◌∷◌, ◌++◌, [], ◌+◌, length, IfOk, OnOk, map, Some, true};
 ghost use Rattle.fut_syntax.specs.Trees.{Signed};
 ghost use Rattle.fut_syntax.specs.Views.{sign_tree, expr_tree, operand_tree, primary_tree, init_tree, type_tree, args_tree, stmt_tree, block_tree, tail_tree, items_tree};
 ghost use Rattle.task_machine.specs.Variables.{slot_in, operand_in, primary_in};
@@ -10,6 +10,7 @@ ghost use Rattle.task_frame.specs.declared.instruction.Fill.TheVariants as fill;
 ghost use Rattle.task_frame.specs.declared.instruction.Instruction.TheVariants.{Set, Spawn};
 ghost use Rattle.task_machine.specs.Variables.{size_of};
 ghost use Rattle.task_frame.specs.Names.{find_name, rooms_by, HasRoom};
+ghost use Rattle.fut_check.specs.Numbers.{expr_fits, operand_fits, primary_fits, each_fits};
 ghost use Rattle.task_code.specs.Serving.{HasVariable, IsAlone, IsTask, IsVariable, ServesInit, ServesStmt, ServesBlock, ServesTail, instructions_for, instructions_in, instructions_else};
 ghost use Rattle.task_code.specs.Flat.{place_of, fill_of, Means, MeanAll, IsSource, IsDone, DoesStmt, DoesBlock, DoesTail, Grows, Stands};
 
@@ -26,6 +27,7 @@ use task_frame::term::Term;
 /// The expression with its variables by number. A word that the task does not declare is 0.
 #[cycle(terms)]
 fn term_of(alloc: Global, scope: &Scope, expr: &Expr) -> Result<Term, NoMemory>
+    requires fits { expr_fits (expr_tree expr.now) ≡ true }
     ensures { IfOk result (λ t. Means scope.now.names.now (λ vars. slot_in vars (expr_tree expr.now)) t) }
 {
     match expr {
@@ -40,6 +42,7 @@ fn term_of(alloc: Global, scope: &Scope, expr: &Expr) -> Result<Term, NoMemory>
 
 #[cycle(terms)]
 fn term_of_operand(alloc: Global, scope: &Scope, operand: &Operand) -> Result<Term, NoMemory>
+    requires fits { operand_fits (operand_tree operand.now) ≡ true }
     ensures { IfOk result (λ t. Means scope.now.names.now (λ vars. operand_in vars (operand_tree operand.now)) t) }
 {
     match operand {
@@ -54,6 +57,7 @@ fn term_of_signed(
     sign: Sign,
     primary: &Primary,
 ) -> Result<Term, NoMemory>
+    requires fits { primary_fits (primary_tree primary.now) ≡ true }
     ensures { IfOk result (λ t. Means scope.now.names.now (λ vars. operand_in vars (Signed (sign_tree sign) (primary_tree primary.now))) t) }
 {
     let of = term_of_primary(alloc, scope, primary)?;
@@ -71,19 +75,13 @@ fn term_with_sign(alloc: Global, sign: Sign, of: Term) -> Result<Term, NoMemory>
     }
 }
 
-/// A number of 2^63 or more stands in no text, and is not taken from a tree that was made otherwise.
 #[cycle(terms)]
 fn term_of_primary(alloc: Global, scope: &Scope, primary: &Primary) -> Result<Term, NoMemory>
+    requires fits { primary_fits (primary_tree primary.now) ≡ true }
     ensures { IfOk result (λ t. Means scope.now.names.now (λ vars. primary_in vars (primary_tree primary.now)) t) }
 {
     match primary {
-        Primary::Number(number) => {
-            if *number < 0x8000_0000_0000_0000 {
-                Ok(Term::Number(*number as i64))
-            } else {
-                Err(NoMemory)
-            }
-        }
+        Primary::Number(number) => Ok(Term::Number(*number as i64)),
         Primary::Word(word) => match find(scope.names, word.as_slice()) {
             Some(variable) => Ok(Term::Variable(variable)),
             None => Ok(Term::Number(0)),
@@ -94,6 +92,7 @@ fn term_of_primary(alloc: Global, scope: &Scope, primary: &Primary) -> Result<Te
 
 /// The arguments of a call.
 fn terms_of(alloc: Global, scope: &Scope, args: &[Expr]) -> Result<Items<Term>, NoMemory>
+    requires fits { each_fits (args_tree args.now) ≡ true }
     ensures { IfOk result (λ ts. MeanAll scope.now.names.now (args_tree args.now) ts) }
 {
     let mut terms = Vec::new(alloc);

@@ -3,6 +3,7 @@ use Rattle.std.specs.Prelude.{slice_get}
 use Rattle.std.proofs.lemmas.Option.{slice_get-get_or}
 use Rattle.fut_tokens.specs.declared.token.Place.{Place}
 use Rattle.fut_rules.specs.Faults.{Searched, least}
+use Rattle.fut_check.specs.Checks.{some_fit}
 use Rattle.fut_check.specs.Items.{faults_of}
 use Rattle.fut_check.proofs.Wholes.{items_fit, found_in, is_checked, fault_of}
 use Rattle.fut_check.proofs.program.check.Goals as goal
@@ -37,3 +38,6 @@ returns-in-Some c =
     let within : c.in-Some.fault.token < length c.as_slice-places.result.now = omega (arith, c.in-Some.ensures.within, c.in-Ok.ensures.end, end) in
     fault_of c.args.program.now c.requires c.walk_items.new.search.found c.in-Some.fault c.number.result _ found (sym c.in-Some.ensures.value) c.number.ensures
     (ap (λ q. slice_get q token) (sym c.as_slice-places.ensures) ∙ slice_get-get_or c.as_slice-places.result.now token none within)
+
+pub new-requires-clause-numbers : goal.new-requires-clause-numbers
+new-requires-clause-numbers c = ap some_fit c.requires.is ∙ c.requires.numbers

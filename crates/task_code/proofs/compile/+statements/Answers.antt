@@ -62,7 +62,7 @@ add_stmt-add_tail-requires t c =
     let is = if_made c.args.stmt.now c.in-If.test body body c.in-If.tail c.in-If.is refl in
     let sizes = ap instructions_for is in
     let few = c.requires.few in
-    (search (rules, the_lemmas), ((subst (ServesStmt (place_of c.args.scope.now)) is c.requires.serves).1, omega (arith, sizes, few)))
+    (search (rules, the_lemmas), ((subst (ServesStmt (place_of c.args.scope.now)) is c.requires.serves).2, omega (arith, sizes, few)))
 
 pub add_stmt-add_block-requires : goal.add_stmt-add_block-requires
 add_stmt-add_block-requires t c =
@@ -70,7 +70,7 @@ add_stmt-add_block-requires t c =
     let sizes = ap instructions_for is in
     let few = c.requires.few in
     let tail = c.in_ok-otherwise-in-If.ensures.count in
-    (search (rules, the_lemmas), ((subst (ServesStmt (place_of c.args.scope.now)) is c.requires.serves).0, omega (arith, sizes, few, tail)))
+    (search (rules, the_lemmas), ((subst (ServesStmt (place_of c.args.scope.now)) is c.requires.serves).1, omega (arith, sizes, few, tail)))
 
 pub add_stmt-push-requires : goal.add_stmt-push-requires
 add_stmt-push-requires t c =
@@ -119,7 +119,7 @@ add_stmt-add_block-requires-in-While t c =
     let is = while_made c.args.stmt.now c.in-While.test c.in-While.body c.as_slice-in-While-2.result.now c.in-While.is c.as_slice-in-While-2.ensures in
     let sizes = ap instructions_for is in
     let few = c.requires.few in
-    (search (rules, the_lemmas), (subst (ServesStmt (place_of c.args.scope.now)) is c.requires.serves, omega (arith, sizes, few)))
+    (search (rules, the_lemmas), ((subst (ServesStmt (place_of c.args.scope.now)) is c.requires.serves).1, omega (arith, sizes, few)))
 
 pub add_stmt-push-requires-in-While : goal.add_stmt-push-requires-in-While
 add_stmt-push-requires-in-While t c =

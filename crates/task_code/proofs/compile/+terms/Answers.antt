@@ -1,9 +1,11 @@
-use Rattle.std.proofs.Common.{◌≡◌, refl, ap, sym, ◌∙◌, subst}
+use Rattle.std.proofs.Common.{rules, ◌≡◌, true, refl, ap, sym, ◌∙◌, subst}
 use Rattle.std.specs.Prelude.{IfOk}
 use Rattle.fut_syntax.specs.Trees as tree
+use Rattle.fut_syntax.specs.declared.tree.Expr.{the_lemmas}
 use Rattle.fut_syntax.specs.declared.tree.Primary.{Bracket}
 use Rattle.fut_syntax.specs.Views.{expr_tree, operand_tree, primary_tree, op_tree, sign_tree}
 use Rattle.fut_syntax.proofs.Made.{bracket_tree}
+use Rattle.fut_check.specs.Numbers.{primary_fits}
 use Rattle.task_machine.specs.Variables.{slot_in, primary_in}
 use Rattle.task_frame.specs.declared.term.Term.{Term, Pair}
 use Rattle.task_code.specs.Flat.{Means}
@@ -28,3 +30,8 @@ pub term_of_primary-returns-in-Bracket : goal.term_of_primary-returns-in-Bracket
 term_of_primary-returns-in-Bracket t c =
     let is : primary_tree c.args.primary.now ≡ tree.Bracket (expr_tree c.get.result.now) = ap primary_tree (c.in-Bracket.is ∙ ap Bracket (sym c.get.ensures)) ∙ bracket_tree c.get.result.now in
     subst (λ p. IfOk c.term_of.result (λ x. Means c.args.scope.now.names.now (λ vars. primary_in vars p) x)) (sym is) c.term_of.ensures
+
+pub term_of_primary-term_of-requires : goal.term_of_primary-term_of-requires
+term_of_primary-term_of-requires t c =
+    let is : primary_tree c.args.primary.now ≡ tree.Bracket (expr_tree c.get.result.now) = ap primary_tree (c.in-Bracket.is ∙ ap Bracket (sym c.get.ensures)) ∙ bracket_tree c.get.result.now in
+    (search (rules, the_lemmas), subst (λ p. primary_fits p ≡ true) is c.requires.fits)
