@@ -1,4 +1,5 @@
 //! Calls by words over a source and a sink in memory.
+mod forms;
 mod guide;
 mod lengths;
 mod process;
@@ -72,7 +73,7 @@ pub fn call_forder(
         given.push(word)?;
     }
     let mut source = MemSource::make(alloc, text, most.max(1), take_fails)?;
-    let mut out = MemSink::make(alloc, 1_000_000, most.max(1), put_fails)?;
+    let mut out = MemSink::make(alloc, 32_000_000, most.max(1), put_fails)?;
     let Ended { status, history } = forder(&(), alloc, &given, &mut source, &mut out, &FreeGate);
     let text = Vec::from_slice(alloc, out.bytes())?;
     Ok(Answer {
