@@ -4,9 +4,11 @@
 //! The words are the name of a part, a count and a number of threads. With others it says how it is used, and ends with 9.
 #![tactic(auto)]
 
+mod orders;
 mod part;
 mod tree;
 
+use crate::orders::{answers_beside, befores_of_live, befores_of_still, relabelled};
 use crate::part::{Part, part_of};
 use crate::tree::{Tree, done_alone, done_by_workers};
 use fut_base::list::NoMemory;
@@ -42,26 +44,33 @@ fn words_of<R: env::Env + AllocGlobal>(rt: &R) -> Option<Asked> {
     })
 }
 
-// The tree of jobs that a part does.
+// The tree of jobs that a part does; one job for a part that does none.
 fn tree_of(alloc: Global, part: Part, count: u32) -> Tree {
     let (jobs, steps) = match part {
         Part::Plain | Part::Pool => (count, 0),
         Part::Work => (count, STEPS),
-        Part::Long => (1, count.saturating_mul(STEPS)),
+        _ => (1, count.saturating_mul(STEPS)),
     };
     Tree { alloc, jobs, steps }
 }
 
-// How many jobs of a part were done.
+// How many jobs or questions of a part were done.
 fn done_of<R: Threads + Wait + Sync>(
     rt: &R,
     alloc: Global,
     asked: &Asked,
-) -> Result<u32, NoMemory> {
-    let tree = tree_of(alloc, asked.part, asked.count);
+) -> Result<u64, NoMemory> {
+    let count = asked.count;
+    let tree = tree_of(alloc, asked.part, count);
     match asked.part {
-        Part::Plain => done_alone(&tree),
-        Part::Pool | Part::Work | Part::Long => done_by_workers(rt, &tree, asked.threads),
+        Part::Plain => Ok(u64::from(done_alone(&tree)?)),
+        Part::Still => Ok(u64::from(befores_of_still(alloc, count)?)),
+        Part::Live => Ok(u64::from(befores_of_live(alloc, count)?)),
+        Part::Readers => answers_beside(rt, alloc, count, asked.threads),
+        Part::Relabelled => relabelled(alloc, count),
+        Part::Pool | Part::Work | Part::Long => {
+            Ok(u64::from(done_by_workers(rt, &tree, asked.threads)?))
+        }
     }
 }
 

@@ -13,6 +13,14 @@ pub enum Part {
     Work,
     /// One job that works for a long time, about a microsecond for each of the count, on a pool whose other workers have none.
     Long,
+    /// Questions how two items stand, to two order-maintenance lists of one thread.
+    Still,
+    /// The same to a reader of labels, while nobody writes.
+    Live,
+    /// As many questions as readers get answered while a writer makes so many inserts at one place.
+    Readers,
+    /// The items that are relabelled in so many inserts at one place.
+    Relabelled,
 }
 
 /// The part of this name.
@@ -24,6 +32,10 @@ pub fn part_of(name: &str) -> Option<Part>
         "pool" => Some(Part::Pool),
         "work" => Some(Part::Work),
         "long" => Some(Part::Long),
+        "still" => Some(Part::Still),
+        "live" => Some(Part::Live),
+        "readers" => Some(Part::Readers),
+        "relabelled" => Some(Part::Relabelled),
         _ => None,
     }
 }
