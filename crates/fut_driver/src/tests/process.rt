@@ -68,7 +68,7 @@ fn command_lines_without_words(rt: HostRuntime) -> Result<(), Fail> {
             9,
             "usage: forder run, serial, replay, check or load\n",
         ),
-        (io::ErrorKind::OutOfMemory, 8, "no memory\n"),
+        (io::ErrorKind::OutOfMemory, 8, ""),
     ];
     for (kind, number, text) in cases {
         // the source fails at its first call, and the answer shows that there was none
