@@ -207,7 +207,7 @@ impl Replay {
     }
 
     /// What a wish waits for: the children of its task, as `Some(None)`, or a future.
-    pub(crate) fn waits(&self, task: u32, wish: Wish) -> Option<Option<u32>>
+    pub fn waits(&self, task: u32, wish: Wish) -> Option<Option<u32>>
         requires exists { task < length self.now.lines }
         ensures { (P : tree.Program) (code : Compiled) (h : List Event) (m : Machine) (r : Running) → IsReplayOf P code h self.now m → slice_get m.tasks task ≡ Some r → MatchOption result (IsFree m r wish) (λ future. IsBarred m r wish future) }
     {
