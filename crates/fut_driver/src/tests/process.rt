@@ -67,16 +67,17 @@ fn command_lines_without_words(rt: HostRuntime) -> Result<(), Fail> {
             io::ErrorKind::InvalidData,
             9,
             "usage: forder run, serial, replay, check or load\n",
+            7,
         ),
-        (io::ErrorKind::OutOfMemory, 8, ""),
+        (io::ErrorKind::OutOfMemory, 8, "", 8),
     ];
-    for (kind, number, text) in cases {
+    for (kind, number, text, cut_off) in cases {
         // the source fails at its first call, and the answer shows that there was none
         let answer = ended(rt.alloc(), Err(io::Error::from(kind)), RACE, &[0], &[])?;
         assert_eq!(rt; answer.0, ExitCode::from(number));
         assert_eq!(rt; answer.1.as_slice(), text.as_bytes());
         let answer = ended(rt.alloc(), Err(io::Error::from(kind)), RACE, &[], &[0])?;
-        assert_eq!(rt; answer.0, ExitCode::from(7));
+        assert_eq!(rt; answer.0, ExitCode::from(cut_off));
         assert_eq!(rt; answer.1.len(), 0);
     }
     Ok(())
