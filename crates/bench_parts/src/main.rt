@@ -6,6 +6,8 @@
 
 mod orders;
 mod part;
+#[cfg(test)]
+mod tests;
 mod tree;
 
 use crate::orders::{answers_beside, befores_of_live, befores_of_still, relabelled};

@@ -1,4 +1,4 @@
-use Rattle.std.proofs.Common.{length, arith, ◌∙◌}
+use Rattle.std.proofs.Common.{arith, ◌∙◌}
 use Rattle.order_list.proofs.Inserting.{grown_by_one}
 use Rattle.bench_parts.proofs.orders.fill.Goals as goal
 

@@ -1,4 +1,4 @@
-use Rattle.std.proofs.Common.{ℕ, List, length, ap, arith}
+use Rattle.std.proofs.Common.{ℕ, length, ap, arith}
 use Rattle.order_list.proofs.Inserting.{grown_by_one}
 use Rattle.bench_parts.proofs.orders.relabel_at_first.Goals as goal
 
