@@ -106,7 +106,7 @@ fn entries_of(
     Ok(history)
 }
 
-/// The entry at which a record of fewer than 1,000 entries, with these races and finish, is refused; `None` where it is accepted.
+/// The entry at which a record of fewer than 100,000 entries, with these races and finish, is refused; `None` where it is accepted.
 fn refused(
     alloc: Global,
     code: &Code,
@@ -116,7 +116,7 @@ fn refused(
 ) -> Result<Option<u32>, NoMemory>
     requires { (P : tree.Program) × IsWellTyped P × IsCodeOf P code.now }
 {
-    if history.len() >= 1000 {
+    if history.len() >= 100_000 {
         return Err(NoMemory);
     }
     let run = RunText {
