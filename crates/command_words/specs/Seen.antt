@@ -1,19 +1,20 @@
 -- What options say together that were read one by one.
-use Rattle.std.specs.Prelude.{◌≡◌, List}
+use Rattle.std.specs.Prelude.{◌≡◌, ℕ, List}
 use Rattle.command_words.specs.declared.options.Choice.{Choice}
 use Rattle.command_words.specs.declared.options.Choice.TheVariants as choice
 use Rattle.command_words.specs.declared.options.Seen as declared
-use Rattle.command_words.specs.Asking.{times, count, is_events, is_brief, is_workers, bound_of}
+use Rattle.command_words.specs.Asking.{times, count, is_events, is_brief, is_workers, bound_of, workers_of}
 
--- these options say this together
-pub record IsSeen (choices : List Choice) (seen : declared.Seen) : Type 0 where
+-- these options say this together, where so many workers make a run whose options name none
+pub record IsSeen (unnamed : ℕ) (choices : List Choice) (seen : declared.Seen) : Type 0 where
   pub bound : seen.bound ≡ bound_of choices
   pub events : count is_events choices ≡ times seen.events
   pub brief : count is_brief choices ≡ times seen.brief
   pub workers : count is_workers choices ≡ times seen.workers
+  pub crew : seen.crew ≡ workers_of unnamed choices
 
 -- an option of this kind is among them
 abbrev pub IsAgain : List Choice → Choice → Type 0
 IsAgain choices (choice.Events _) = count is_events choices ≡ 1
 IsAgain choices choice.Brief = count is_brief choices ≡ 1
-IsAgain choices choice.Workers = count is_workers choices ≡ 1
+IsAgain choices (choice.Workers _) = count is_workers choices ≡ 1

@@ -1,12 +1,21 @@
 //! The options of a run.
 ghost use Rattle.std.specs.Prelude.{◌≡◌, ◌↔◌, ℕ, Bool, List, [], ◌∷◌, ◌++◌, map, IsTrue, MatchOption, codes, decimal, string_bytes};
-ghost use Rattle.command_words.specs.Asking.{IsBound, MayStand, spelling, AreOptions};
+ghost use Rattle.command_words.specs.Asking.{IsFromOneTo, MayStand, spelling, unnamed_workers, AreOptions};
 ghost use Rattle.command_words.specs.Seen.{IsSeen, IsAgain};
 
 use itoa::Buffer;
 
 /// The greatest number of entries of a run whose words name none.
-const MOST_EVENTS: u32 = 100_000;
+const UNNAMED_EVENTS: u32 = 100_000;
+
+/// The greatest number of entries that can be named.
+const MOST_EVENTS: u32 = 1_000_000;
+
+/// The greatest number of workers that can be named.
+const MOST_WORKERS: u32 = 64;
+
+/// The number of workers of a run whose words name none.
+const UNNAMED_WORKERS: u32 = 4;
 
 /// An option as it was chosen.
 #[derive(Clone, Copy)]
@@ -15,8 +24,8 @@ pub enum Choice {
     Events(u32),
     /// `--brief`: the brief text is due.
     Brief,
-    /// `--workers 1`.
-    Workers,
+    /// `--workers` and a number.
+    Workers(u32),
 }
 
 /// What some options say together.
@@ -30,24 +39,27 @@ pub struct Seen {
     pub brief: bool,
     /// Whether the workers were among them.
     pub workers: bool,
+    /// The number of workers.
+    pub crew: u32,
 }
 
 impl Seen {
-    /// What no options say.
-    fn nothing() -> Seen
-        ensures { IsSeen [] result }
+    /// What no options say, where so many workers make a run whose options name none.
+    fn nothing(crew: u32) -> Seen
+        ensures { IsSeen crew [] result }
     {
         Seen {
-            bound: MOST_EVENTS,
+            bound: UNNAMED_EVENTS,
             events: false,
             brief: false,
             workers: false,
+            crew,
         }
     }
 
     /// The same with one option more, where none of its kind was there.
     fn with(self, choice: Choice) -> Option<Seen>
-        ensures { (cs : List Choice) → IsSeen cs self → MatchOption result (IsAgain cs choice) (λ seen. IsSeen (cs ++ choice ∷ []) seen) }
+        ensures { (unnamed : ℕ) (cs : List Choice) → IsSeen unnamed cs self → MatchOption result (IsAgain cs choice) (λ seen. IsSeen unnamed (cs ++ choice ∷ []) seen) }
     {
         match choice {
             Choice::Events(bound) => {
@@ -69,11 +81,12 @@ impl Seen {
                     ..self
                 })
             }
-            Choice::Workers => {
+            Choice::Workers(crew) => {
                 if self.workers {
                     return None;
                 }
                 Some(Seen {
+                    crew,
                     workers: true,
                     ..self
                 })
@@ -86,10 +99,10 @@ impl Seen {
 /// that is allowed.
 pub fn options(words: &[String], workers: bool) -> Option<Seen>
     ensures { MatchOption result
-        ((events : ℕ) (brief : Bool) → AreOptions workers (map string_bytes words.now) events brief → ⊥)
-        (λ seen. AreOptions workers (map string_bytes words.now) seen.bound seen.brief) }
+        ((events : ℕ) (brief : Bool) (crew : ℕ) → AreOptions workers (map string_bytes words.now) events brief crew → ⊥)
+        (λ seen. AreOptions workers (map string_bytes words.now) seen.bound seen.brief seen.crew) }
 {
-    let mut seen = Seen::nothing();
+    let mut seen = Seen::nothing(unnamed(workers));
     let mut rest = words;
     while !rest.is_empty() {
         let (choice, more) = first_option(rest, workers)?;
@@ -97,6 +110,13 @@ pub fn options(words: &[String], workers: bool) -> Option<Seen>
         rest = more;
     }
     Some(seen)
+}
+
+/// How many workers a run has whose words name none.
+fn unnamed(workers: bool) -> u32
+    ensures { result ≡ unnamed_workers workers }
+{
+    if workers { UNNAMED_WORKERS } else { 1 }
 }
 
 /// The option that the words begin with, and the words behind it.
@@ -109,46 +129,46 @@ fn first_option(words: &[String], workers: bool) -> Option<(Choice, &[String])>
         return Some((Choice::Brief, more));
     }
     if let Some(rest) = behind(words, "--events") {
-        let (events, more) = first_bound(rest)?;
+        let (events, more) = first_number(rest, MOST_EVENTS)?;
         return Some((Choice::Events(events), more));
     }
     let rest = behind(words, "--workers")?;
-    let more = behind(rest, "1")?;
+    let (crew, more) = first_number(rest, MOST_WORKERS)?;
     if workers {
-        Some((Choice::Workers, more))
+        Some((Choice::Workers(crew), more))
     } else {
         None
     }
 }
 
-/// The bound that the words begin with, and the words behind it.
-fn first_bound(words: &[String]) -> Option<(u32, &[String])>
+/// The number from one to this one that the words begin with, and the words behind it.
+fn first_number(words: &[String], most: u32) -> Option<(u32, &[String])>
     ensures { MatchOption result
-        ((events : ℕ) (more : List (List ℕ)) → IsBound events → map string_bytes words.now ≡ decimal events ∷ more → ⊥)
-        (λ p. IsBound p.0 × (map string_bytes words.now ≡ decimal p.0 ∷ map string_bytes p.1.now)) }
+        ((n : ℕ) (more : List (List ℕ)) → IsFromOneTo most n → map string_bytes words.now ≡ decimal n ∷ more → ⊥)
+        (λ p. IsFromOneTo most p.0 × (map string_bytes words.now ≡ decimal p.0 ∷ map string_bytes p.1.now)) }
 {
     let [number, more @ ..] = words else {
         return None;
     };
-    let events = bound(number)?;
-    Some((events, more))
+    let n = number_of(number, most)?;
+    Some((n, more))
 }
 
-/// A bound, in decimal digits without leading zeros.
-fn bound(word: &String) -> Option<u32>
+/// A number from one to this one, in decimal digits without leading zeros.
+fn number_of(word: &String, most: u32) -> Option<u32>
     ensures { MatchOption result
-        ((events : ℕ) → IsBound events → string_bytes word.now ≡ decimal events → ⊥)
-        (λ events. IsBound events × (string_bytes word.now ≡ decimal events)) }
+        ((n : ℕ) → IsFromOneTo most n → string_bytes word.now ≡ decimal n → ⊥)
+        (λ n. IsFromOneTo most n × (string_bytes word.now ≡ decimal n)) }
 {
-    let Ok(events) = word.as_str().parse::<u32>() else {
+    let Ok(n) = word.as_str().parse::<u32>() else {
         return None;
     };
-    if events == 0 || events > 1_000_000 {
+    if n == 0 || n > most {
         return None;
     }
     let mut digits = Buffer::new();
-    if digits.format(events) == word.as_str() {
-        Some(events)
+    if digits.format(n) == word.as_str() {
+        Some(n)
     } else {
         None
     }

@@ -37,7 +37,23 @@ fn run_of(given: &ArgMatches<'_>) -> Option<Command> {
     let Ok(events) = events.parse::<u32>() else {
         return None;
     };
-    Some(Command::Run { events, brief })
+    let workers = workers_of(given)?;
+    Some(Command::Run {
+        events,
+        brief,
+        workers,
+    })
+}
+
+/// The number of workers of a run that was found: one where it is serial.
+fn workers_of(given: &ArgMatches<'_>) -> Option<u32> {
+    let Some(workers) = given.get_str("workers") else {
+        return Some(1);
+    };
+    match workers.parse::<u32>() {
+        Ok(workers) => Some(workers),
+        Err(_) => None,
+    }
 }
 
 /// One command with one level of subcommands.
@@ -71,5 +87,5 @@ fn workers<'a>(alloc: Global) -> Arg<'a> {
     Arg::new(alloc, "workers")
         .long("workers")
         .action(ArgAction::Set)
-        .default_value("1")
+        .default_value("4")
 }

@@ -63,8 +63,13 @@ impl Words {
 /// What words ask for.
 #[derive(Clone, Copy, PartialEq, Eq)]
 pub enum Command {
-    /// A run of at most so many entries, of which the brief text is due or the whole record.
-    Run { events: u32, brief: bool },
+    /// A run of at most so many entries on so many workers, of which the brief text is due or the whole record. On one worker it
+    /// is the serial run.
+    Run {
+        events: u32,
+        brief: bool,
+        workers: u32,
+    },
     /// A record is checked against its program.
     Replay,
     Check,
@@ -97,12 +102,13 @@ fn alone(rest: &[String], command: Command) -> Option<Command>
 /// The run with these options, among which `--workers` may be.
 fn run_of(rest: &[String], workers: bool) -> Option<Command>
     ensures { MatchOption result
-        ((events : ℕ) (brief : Bool) → AreOptions workers (map string_bytes rest.now) events brief → ⊥)
-        (λ c. (events : ℕ) × (brief : Bool) × (c ≡ command.Run events brief) × AreOptions workers (map string_bytes rest.now) events brief) }
+        ((events : ℕ) (brief : Bool) (crew : ℕ) → AreOptions workers (map string_bytes rest.now) events brief crew → ⊥)
+        (λ c. (events : ℕ) × (brief : Bool) × (crew : ℕ) × (c ≡ command.Run events brief crew) × AreOptions workers (map string_bytes rest.now) events brief crew) }
 {
     let seen = options(rest, workers)?;
     Some(Command::Run {
         events: seen.bound,
         brief: seen.brief,
+        workers: seen.crew,
     })
 }
