@@ -14,9 +14,9 @@ use Rattle.fut_driver.specs.declared.status.Status.{Status}
 use Rattle.fut_driver.specs.declared.status.Status.TheVariants as status
 use Rattle.fut_driver.specs.Due.{legal_text}
 use Rattle.fut_driver.specs.Given.{Asked, Asks}
-use Rattle.fut_driver.specs.Laws.{IsTold, AreAlike, TellsRun, SameVerdict, OneVerdict, ReplayAnswersRun}
+use Rattle.fut_driver.specs.Laws.{IsTold, AreAlike, AsksOneWorker, TellsRun, SameVerdict, OneVerdict, ReplayAnswersRun}
 use Rattle.fut_driver.specs.Verdict.{Says, IsRead, GaveTooMuch, IsGoodRecord, IsOfHistory, IsVerdict}
-use Rattle.fut_driver.proofs.Coming.{Same, Comes, same_by, one_comes}
+use Rattle.fut_driver.proofs.Coming.{Same, OnOneWorker, Comes, same_by, one_comes}
 use Rattle.fut_driver.proofs.Consuming.{all_left, not_longer}
 
 -- ---- causes
@@ -68,7 +68,7 @@ good_comes bytes P h races end s text good says due = inr (record {
 
 of_history : (a : Asked) (s : Status) (h : List Event) (text : List ℕ) → IsOfHistory a s h text → Cause a s h text
 of_history a s h text (inl v) =
-    of_read a (command.Run v.bound v.brief) v.bytes s h text v.words v.read
+    of_read a (command.Run v.bound v.brief v.workers) v.bytes s h text v.words v.read
     (inr (record {
       program = v.bytes;
       given = refl;
@@ -138,6 +138,12 @@ asked_back a b bytes alike c y = subst (λ m. AreWordsOf m a.words c) (sym alike
 asked_on : (a b : Asked) (bytes : List ℕ) (alike : AreAlike a b bytes) (c : Command) → Asks a c → Asks b c
 asked_on a b bytes alike c x = subst (λ m. AreWordsOf m b.words c) alike.may_run (subst (λ w. AreWordsOf a.may_run w c) alike.words x)
 
+-- a run that is asked for is one on one worker
+on_one : (a : Asked) → AsksOneWorker a → (c : Command) → Asks a c → OnOneWorker c
+on_one a one command.Check x = tt
+on_one a one command.Replay x = tt
+on_one a one (command.Run bound brief workers) x = one bound brief workers x
+
 -- what is read whole is not too long
 long_or_read : (a b : Asked) (bytes : List ℕ) (c d : Command) (read : List ℕ) → IsTold a bytes → IsTold b bytes → c ≡ d → GaveTooMuch a (most_bytes c) → IsRead b d read → ⊥
 long_or_read a b bytes c d read x y same gave whole =
@@ -145,45 +151,45 @@ long_or_read a b bytes c d read x y same gave whole =
     let all = all_left b.left_before b.left_after read bytes y.left whole.taken whole.nothing_left in
     omega (arith, most, gave.long, whole.short, ap length all, ap most_bytes same)
 
-one_cause : (a b : Asked) (bytes : List ℕ) (s r : Status) (h g : List Event) (text other : List ℕ) → AreAlike a b bytes → Cause a s h text → Cause b r g other → Same s h text r g other
-one_cause a b bytes s r h g text other alike (inl x) (inl y) = same_by s r status.Usage h g [] text other _ x.is y.is
-one_cause a b bytes s r h g text other alike (inl x) (inr (inl y)) = absurd (x.none y.command (asked_back a b bytes alike y.command y.words))
-one_cause a b bytes s r h g text other alike (inl x) (inr (inr (inl y))) = absurd (x.none y.command (asked_back a b bytes alike y.command y.words))
-one_cause a b bytes s r h g text other alike (inl x) (inr (inr (inr y))) = absurd (x.none y.command (asked_back a b bytes alike y.command y.words))
-one_cause a b bytes s r h g text other alike (inr (inl x)) (inl y) = absurd (y.none x.command (asked_on a b bytes alike x.command x.words))
-one_cause a b bytes s r h g text other alike (inr (inl x)) (inr (inl y)) = same_by s r status.ReadFault h g [] text other _ x.is y.is
-one_cause a b bytes s r h g text other alike (inr (inl x)) (inr (inr (inl y))) =
+one_cause : (a b : Asked) (bytes : List ℕ) (s r : Status) (h g : List Event) (text other : List ℕ) → AreAlike a b bytes → AsksOneWorker a → Cause a s h text → Cause b r g other → Same s h text r g other
+one_cause a b bytes s r h g text other alike one (inl x) (inl y) = same_by s r status.Usage h g [] text other _ x.is y.is
+one_cause a b bytes s r h g text other alike one (inl x) (inr (inl y)) = absurd (x.none y.command (asked_back a b bytes alike y.command y.words))
+one_cause a b bytes s r h g text other alike one (inl x) (inr (inr (inl y))) = absurd (x.none y.command (asked_back a b bytes alike y.command y.words))
+one_cause a b bytes s r h g text other alike one (inl x) (inr (inr (inr y))) = absurd (x.none y.command (asked_back a b bytes alike y.command y.words))
+one_cause a b bytes s r h g text other alike one (inr (inl x)) (inl y) = absurd (y.none x.command (asked_on a b bytes alike x.command x.words))
+one_cause a b bytes s r h g text other alike one (inr (inl x)) (inr (inl y)) = same_by s r status.ReadFault h g [] text other _ x.is y.is
+one_cause a b bytes s r h g text other alike one (inr (inl x)) (inr (inr (inl y))) =
     absurd (quiet_stays b.faults_before b.faults_after alike.other_told.can_rise y.gave.quiet (alike.failed.0 x.rose))
-one_cause a b bytes s r h g text other alike (inr (inl x)) (inr (inr (inr y))) =
+one_cause a b bytes s r h g text other alike one (inr (inl x)) (inr (inr (inr y))) =
     absurd (quiet_stays b.faults_before b.faults_after alike.other_told.can_rise y.read.quiet (alike.failed.0 x.rose))
-one_cause a b bytes s r h g text other alike (inr (inr (inl x))) (inl y) = absurd (y.none x.command (asked_on a b bytes alike x.command x.words))
-one_cause a b bytes s r h g text other alike (inr (inr (inl x))) (inr (inl y)) =
+one_cause a b bytes s r h g text other alike one (inr (inr (inl x))) (inl y) = absurd (y.none x.command (asked_on a b bytes alike x.command x.words))
+one_cause a b bytes s r h g text other alike one (inr (inr (inl x))) (inr (inl y)) =
     absurd (quiet_stays a.faults_before a.faults_after alike.told.can_rise x.gave.quiet (alike.failed.1 y.rose))
-one_cause a b bytes s r h g text other alike (inr (inr (inl x))) (inr (inr (inl y))) = same_by s r status.TooLong h g [] text other _ x.is y.is
-one_cause a b bytes s r h g text other alike (inr (inr (inl x))) (inr (inr (inr y))) =
+one_cause a b bytes s r h g text other alike one (inr (inr (inl x))) (inr (inr (inl y))) = same_by s r status.TooLong h g [] text other _ x.is y.is
+one_cause a b bytes s r h g text other alike one (inr (inr (inl x))) (inr (inr (inr y))) =
     absurd (long_or_read a b bytes x.command y.command y.bytes alike.told alike.other_told (one_asked a b bytes alike x.command y.command x.words y.words) x.gave y.read)
-one_cause a b bytes s r h g text other alike (inr (inr (inr x))) (inl y) = absurd (y.none x.command (asked_on a b bytes alike x.command x.words))
-one_cause a b bytes s r h g text other alike (inr (inr (inr x))) (inr (inl y)) =
+one_cause a b bytes s r h g text other alike one (inr (inr (inr x))) (inl y) = absurd (y.none x.command (asked_on a b bytes alike x.command x.words))
+one_cause a b bytes s r h g text other alike one (inr (inr (inr x))) (inr (inl y)) =
     absurd (quiet_stays a.faults_before a.faults_after alike.told.can_rise x.read.quiet (alike.failed.1 y.rose))
-one_cause a b bytes s r h g text other alike (inr (inr (inr x))) (inr (inr (inl y))) =
+one_cause a b bytes s r h g text other alike one (inr (inr (inr x))) (inr (inr (inl y))) =
     absurd (long_or_read b a bytes y.command x.command x.bytes alike.other_told alike.told (sym (one_asked a b bytes alike x.command y.command x.words y.words)) y.gave x.read)
-one_cause a b bytes s r h g text other alike (inr (inr (inr x))) (inr (inr (inr y))) =
+one_cause a b bytes s r h g text other alike one (inr (inr (inr x))) (inr (inr (inr y))) =
     let same = one_asked a b bytes alike x.command y.command x.words y.words in
     let mine : x.bytes ≡ bytes = all_left a.left_before a.left_after x.bytes bytes alike.told.left x.read.taken x.read.nothing_left in
     let theirs : y.bytes ≡ bytes = all_left b.left_before b.left_after y.bytes bytes alike.other_told.left y.read.taken y.read.nothing_left in
-    one_comes y.command bytes s r h g text other
+    one_comes y.command bytes s r h g text other (on_one a one y.command (asked_back a b bytes alike y.command y.words))
     (subst (λ c. Comes c bytes s h text) same (subst (λ bs. Comes x.command bs s h text) mine x.comes))
     (subst (λ bs. Comes y.command bs r g other) theirs y.comes)
 
 pub same_verdict : SameVerdict
-same_verdict a b bytes s r h g text other alike x y some another =
-    one_cause a b bytes s r h g text other alike (cause_of a s h text x some) (cause_of b r g other y another)
+same_verdict a b bytes s r h g text other alike one x y some another =
+    one_cause a b bytes s r h g text other alike one (cause_of a s h text x some) (cause_of b r g other y another)
 
 pub one_verdict : OneVerdict
-one_verdict a bytes s r h g text other told x y some another =
+one_verdict a bytes s r h g text other told one x y some another =
     same_verdict a a bytes s r h g text other
     (record { may_run = refl; words = refl; told = told; other_told = told; failed = ((λ rose. rose), λ rose. rose) })
-    x y some another
+    one x y some another
 
 -- ---- a run and its replay
 
@@ -203,7 +209,7 @@ history_of a status.Usage h text tells v = absurd tells
 history_of a status.TooLong h text tells v = absurd tells
 
 abbrev is_brief_run : Command → Bool
-is_brief_run (command.Run bound brief) = brief
+is_brief_run (command.Run bound brief workers) = brief
 is_brief_run _ = false
 
 -- the record that a run wrote is one that is accepted, and the status says how it ended
@@ -214,16 +220,16 @@ record WroteRecord (s : Status) (h : List Event) (text : List ℕ) : Type 0 wher
   good : IsGoodRecord text tree h races end
   says : Says s end races
 
-wrote_record : (a : Asked) (bound : ℕ) (s : Status) (h : List Event) (text : List ℕ) → Asks a (command.Run bound false) → IsOfHistory a s h text → WroteRecord s h text
-wrote_record a bound s h text words (inl v) = record {
+wrote_record : (a : Asked) (bound workers : ℕ) (s : Status) (h : List Event) (text : List ℕ) → Asks a (command.Run bound false workers) → IsOfHistory a s h text → WroteRecord s h text
+wrote_record a bound workers s h text words (inl v) = record {
   tree = v.tree;
   races = v.races;
   end = v.end;
-  good = v.replayed (ap is_brief_run (one_command a.may_run a.words (command.Run v.bound v.brief) (command.Run bound false) v.words words));
+  good = v.replayed (ap is_brief_run (one_command a.may_run a.words (command.Run v.bound v.brief v.workers) (command.Run bound false workers) v.words words));
   says = v.ends.1;
 }
-wrote_record a bound s h text words (inr v) =
-    absurd (let same : command.Replay ≡ command.Run bound false = one_command a.may_run a.words command.Replay (command.Run bound false) v.words words in cc)
+wrote_record a bound workers s h text words (inr v) =
+    absurd (let same : command.Replay ≡ command.Run bound false workers = one_command a.may_run a.words command.Replay (command.Run bound false workers) v.words words in cc)
 
 replayed : (b : Asked) (s r : Status) (h g : List Event) (text other : List ℕ) → WroteRecord s h text → Asks b command.Replay → b.left_before ≡ Some text → length text ≤ most_bytes command.Replay → (Rose b.faults_before b.faults_after → ⊥) → Cause b r g other → (r ≡ s) × (g ≡ h)
 replayed b s r h g text other wrote words left short quiet (inl x) = absurd (x.none command.Replay words)
@@ -236,11 +242,11 @@ replayed b s r h g text other wrote words left short quiet (inr (inr (inr x))) =
     let same = one_command b.may_run b.words x.command command.Replay x.words words in
     let all = all_left b.left_before b.left_after x.bytes text left x.read.taken x.read.nothing_left in
     let due = legal_text (length h) (length wrote.races) in
-    let one = one_comes command.Replay text r s g h other due
+    let one = one_comes command.Replay text r s g h other due tt
     (subst (λ c. Comes c text r g other) same (subst (λ bs. Comes x.command bs r g other) all x.comes))
     (good_comes text wrote.tree h wrote.races wrote.end s due wrote.good wrote.says refl) in
     (one.0, one.1)
 
 pub replay_answers_run : ReplayAnswersRun
-replay_answers_run a b bound s r h g text other words tells v replays left short quiet w some =
-    replayed b s r h g text other (wrote_record a bound s h text words (history_of a s h text tells v)) replays left short quiet (cause_of b r g other w some)
+replay_answers_run a b bound workers s r h g text other words tells v replays left short quiet w some =
+    replayed b s r h g text other (wrote_record a bound workers s h text words (history_of a s h text tells v)) replays left short quiet (cause_of b r g other w some)

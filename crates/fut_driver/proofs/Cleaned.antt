@@ -29,7 +29,7 @@ pub clean_answers_for_all : CleanAnswersForAll
 clean_answers_for_all a h text (inl x) =
     let run = x.ends.0 in (
       x.tree,
-      record { command = command.Run x.bound x.brief; words = x.words; bytes = x.bytes; read = x.read; text = x.bytes; given = refl; typed = x.program },
+      record { command = command.Run x.bound x.brief x.workers; words = x.words; bytes = x.bytes; read = x.read; text = x.bytes; given = refl; typed = x.program },
       for_all x.tree h x.races x.end run.run.holds x.ends.1.0 run.report x.ends.1.1,
     )
 clean_answers_for_all a h text (inr x) =

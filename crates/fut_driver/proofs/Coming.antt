@@ -104,16 +104,16 @@ says_how status.Usage end races says = absurd says
 says_how status.TooLong end races says = absurd says
 
 -- a program was run, and this text is due
-pub record IsRunDue (bound : ℕ) (brief : Bool) (bytes : List ℕ) (P : tree.Program) (s : Status) (h : List Event) (text : List ℕ) : Type 0 where
+pub record IsRunDue (workers bound : ℕ) (brief : Bool) (bytes : List ℕ) (P : tree.Program) (s : Status) (h : List Event) (text : List ℕ) : Type 0 where
   pub races : List Race
   pub end : Finish
   pub cells : List ℤ
-  pub ends : EndsIn P bound s end h races cells
+  pub ends : EndsIn P workers bound s end h races cells
   pub is_due : text ≡ run_due brief bytes (cell_arrays P) h races end cells
 
-one_run : (bound : ℕ) (brief : Bool) (bytes : List ℕ) (P : tree.Program) (s r : Status) (h g : List Event) (text other : List ℕ) → IsRunDue bound brief bytes P s h text → IsRunDue bound brief bytes P r g other → Same s h text r g other
-one_run bound brief bytes P s r h g text other x y =
-    let run = serial_is_one P (limits_of bound) h g x.end y.end x.cells y.cells x.ends.0.run y.ends.0.run in
+one_run : (workers bound : ℕ) (brief : Bool) (bytes : List ℕ) (P : tree.Program) (s r : Status) (h g : List Event) (text other : List ℕ) → workers ≡ 1 → IsRunDue workers bound brief bytes P s h text → IsRunDue workers bound brief bytes P r g other → Same s h text r g other
+one_run workers bound brief bytes P s r h g text other one x y =
+    let run = serial_is_one P (limits_of bound) h g x.end y.end x.cells y.cells (x.ends.0.serial one) (y.ends.0.serial one) in
     let races_are : x.races ≡ y.races = one_report g x.races y.races (subst (λ e. IsReport e x.races) run.0 x.ends.0.report) y.ends.0.report in
     let ending : ending_of x.end x.races ≡ ending_of y.end y.races = ap (λ e. ending_of e x.races) run.1 ∙ ap (ending_of y.end) races_are in
     let due = λ (e : List Event) (rs : List Race) (f : Finish) (cs : List ℤ). run_due brief bytes (cell_arrays P) e rs f cs in
@@ -156,16 +156,22 @@ one_record bytes P s r h g text other x y =
 
 -- ---- texts
 
+-- where a run is asked for, it is one on one worker
+abbrev pub OnOneWorker : Command → Type 0
+OnOneWorker command.Check = Unit {0}
+OnOneWorker command.Replay = Unit {0}
+OnOneWorker (command.Run bound brief workers) = workers ≡ 1
+
 -- what comes of a program that breaks no type rule
 abbrev pub IsGoodDue : Command → List ℕ → tree.Program → Status → List Event → List ℕ → Type 0
 IsGoodDue command.Check bytes P s h text = Same s h text status.Accepted [] (canonical_text P)
-IsGoodDue (command.Run bound brief) bytes P s h text = IsRunDue bound brief bytes P s h text
+IsGoodDue (command.Run bound brief workers) bytes P s h text = IsRunDue workers bound brief bytes P s h text
 IsGoodDue command.Replay bytes P s h text = IsRecordDue bytes P s h text
 
-one_good : (c : Command) (bytes : List ℕ) (P : tree.Program) (s r : Status) (h g : List Event) (text other : List ℕ) → IsGoodDue c bytes P s h text → IsGoodDue c bytes P r g other → Same s h text r g other
-one_good command.Check bytes P s r h g text other x y = same_by s r status.Accepted h g [] text other (canonical_text P) x y
-one_good (command.Run bound brief) bytes P s r h g text other x y = one_run bound brief bytes P s r h g text other x y
-one_good command.Replay bytes P s r h g text other x y = one_record bytes P s r h g text other x y
+one_good : (c : Command) (bytes : List ℕ) (P : tree.Program) (s r : Status) (h g : List Event) (text other : List ℕ) → OnOneWorker c → IsGoodDue c bytes P s h text → IsGoodDue c bytes P r g other → Same s h text r g other
+one_good command.Check bytes P s r h g text other one x y = same_by s r status.Accepted h g [] text other (canonical_text P) x y
+one_good (command.Run bound brief workers) bytes P s r h g text other one x y = one_run workers bound brief bytes P s r h g text other one x y
+one_good command.Replay bytes P s r h g text other one x y = one_record bytes P s r h g text other x y
 
 -- the program text has a fault place
 pub record IsSyntaxDue (program : List ℕ) (s : Status) (h : List Event) (text : List ℕ) : Type 0 where
@@ -189,26 +195,26 @@ pub record IsTypedDue (c : Command) (bytes program : List ℕ) (s : Status) (h :
 abbrev pub IsTextDue : Command → List ℕ → List ℕ → Status → List Event → List ℕ → Type 0
 IsTextDue c bytes program s h text = IsSyntaxDue program s h text ⊎ (IsTypeDue program s h text ⊎ IsTypedDue c bytes program s h text)
 
-one_text : (c : Command) (bytes program : List ℕ) (s r : Status) (h g : List Event) (text other : List ℕ) → IsTextDue c bytes program s h text → IsTextDue c bytes program r g other → Same s h text r g other
-one_text c bytes program s r h g text other (inl x) (inl y) =
+one_text : (c : Command) (bytes program : List ℕ) (s r : Status) (h g : List Event) (text other : List ℕ) → OnOneWorker c → IsTextDue c bytes program s h text → IsTextDue c bytes program r g other → Same s h text r g other
+one_text c bytes program s r h g text other one (inl x) (inl y) =
     let place : x.place ≡ y.place = one_fault_place program x.place y.place x.fault y.fault in
     same_by s r (status.Syntax y.place.line y.place.column) h g [] text other (syntax_text y.place.line y.place.column)
     (subst (λ (p : Place). Same s h text (status.Syntax p.line p.column) [] (syntax_text p.line p.column)) place x.is) y.is
-one_text c bytes program s r h g text other (inl x) (inr (inl y)) = absurd (no_faulty_program program x.place y.fault.tree x.fault y.fault.program)
-one_text c bytes program s r h g text other (inl x) (inr (inr y)) = absurd (no_syntax program y.tree x.place y.typed x.fault)
-one_text c bytes program s r h g text other (inr (inl x)) (inl y) = absurd (no_faulty_program program y.place x.fault.tree y.fault x.fault.program)
-one_text c bytes program s r h g text other (inr (inl x)) (inr (inl y)) =
+one_text c bytes program s r h g text other one (inl x) (inr (inl y)) = absurd (no_faulty_program program x.place y.fault.tree x.fault y.fault.program)
+one_text c bytes program s r h g text other one (inl x) (inr (inr y)) = absurd (no_syntax program y.tree x.place y.typed x.fault)
+one_text c bytes program s r h g text other one (inr (inl x)) (inl y) = absurd (no_faulty_program program y.place x.fault.tree y.fault x.fault.program)
+one_text c bytes program s r h g text other one (inr (inl x)) (inr (inl y)) =
     let same = one_type_fault program x.number y.number x.place y.place x.fault y.fault in
     let moved : Same s h text (status.IllTyped y.number y.place.line y.place.column) [] (type_text y.number y.place.line y.place.column) =
     subst (λ (p : Place). Same s h text (status.IllTyped y.number p.line p.column) [] (type_text y.number p.line p.column)) same.1
     (subst (λ n. Same s h text (status.IllTyped n x.place.line x.place.column) [] (type_text n x.place.line x.place.column)) same.0 x.is) in
     same_by s r (status.IllTyped y.number y.place.line y.place.column) h g [] text other (type_text y.number y.place.line y.place.column) moved y.is
-one_text c bytes program s r h g text other (inr (inl x)) (inr (inr y)) = absurd (no_type_fault program y.tree x.number x.place y.typed x.fault)
-one_text c bytes program s r h g text other (inr (inr x)) (inl y) = absurd (no_syntax program x.tree y.place x.typed y.fault)
-one_text c bytes program s r h g text other (inr (inr x)) (inr (inl y)) = absurd (no_type_fault program x.tree y.number y.place x.typed y.fault)
-one_text c bytes program s r h g text other (inr (inr x)) (inr (inr y)) =
+one_text c bytes program s r h g text other one (inr (inl x)) (inr (inr y)) = absurd (no_type_fault program y.tree x.number x.place y.typed x.fault)
+one_text c bytes program s r h g text other one (inr (inr x)) (inl y) = absurd (no_syntax program x.tree y.place x.typed y.fault)
+one_text c bytes program s r h g text other one (inr (inr x)) (inr (inl y)) = absurd (no_type_fault program x.tree y.number y.place x.typed y.fault)
+one_text c bytes program s r h g text other one (inr (inr x)) (inr (inr y)) =
     let tree_is : x.tree ≡ y.tree = one_program program x.tree y.tree x.typed.program y.typed.program in
-    one_good c bytes y.tree s r h g text other (subst (λ t. IsGoodDue c bytes t s h text) tree_is x.due) y.due
+    one_good c bytes y.tree s r h g text other one (subst (λ t. IsGoodDue c bytes t s h text) tree_is x.due) y.due
 
 -- ---- bytes
 
@@ -231,21 +237,21 @@ Comes c bytes s h text = IsNotRunDue c bytes s h text ⊎ IsFoundDue c bytes s h
 
 one_given : (c : Command) (bytes p q : List ℕ) → IsGiven c bytes p → IsGiven c bytes q → p ≡ q
 one_given command.Check bytes p q x y = x ∙ sym y
-one_given (command.Run _ _) bytes p q x y = x ∙ sym y
+one_given (command.Run _ _ _) bytes p q x y = x ∙ sym y
 one_given command.Replay bytes p q (h, races, end, x) (h', races', end', y) = (one_value bytes p h races end q h' races' end' x y).0
 
 not_both : (c : Command) (bytes p : List ℕ) (byte : ℕ) → c ≡ command.Replay → IsFault bytes byte → IsGiven c bytes p → ⊥
 not_both command.Replay bytes p byte is fault (h, races, end, given) = fault.none (p, h, races, end, given)
 not_both command.Check bytes p byte is fault given = cc
-not_both (command.Run _ _) bytes p byte is fault given = cc
+not_both (command.Run _ _ _) bytes p byte is fault given = cc
 
-pub one_comes : (c : Command) (bytes : List ℕ) (s r : Status) (h g : List Event) (text other : List ℕ) → Comes c bytes s h text → Comes c bytes r g other → Same s h text r g other
-one_comes c bytes s r h g text other (inl x) (inl y) =
+pub one_comes : (c : Command) (bytes : List ℕ) (s r : Status) (h g : List Event) (text other : List ℕ) → OnOneWorker c → Comes c bytes s h text → Comes c bytes r g other → Same s h text r g other
+one_comes c bytes s r h g text other one (inl x) (inl y) =
     let byte : x.byte ≡ y.byte = one_fault bytes x.byte y.byte x.fault y.fault in
     same_by s r (status.NotRun y.byte) h g [] text other (not_run_text y.byte)
     (subst (λ k. Same s h text (status.NotRun k) [] (not_run_text k)) byte x.is) y.is
-one_comes c bytes s r h g text other (inl x) (inr y) = absurd (not_both c bytes y.program x.byte x.words x.fault y.given)
-one_comes c bytes s r h g text other (inr x) (inl y) = absurd (not_both c bytes x.program y.byte y.words y.fault x.given)
-one_comes c bytes s r h g text other (inr x) (inr y) =
+one_comes c bytes s r h g text other one (inl x) (inr y) = absurd (not_both c bytes y.program x.byte x.words x.fault y.given)
+one_comes c bytes s r h g text other one (inr x) (inl y) = absurd (not_both c bytes x.program y.byte y.words y.fault x.given)
+one_comes c bytes s r h g text other one (inr x) (inr y) =
     let program_is : x.program ≡ y.program = one_given c bytes x.program y.program x.given y.given in
-    one_text c bytes y.program s r h g text other (subst (λ p. IsTextDue c bytes p s h text) program_is x.due) y.due
+    one_text c bytes y.program s r h g text other one (subst (λ p. IsTextDue c bytes p s h text) program_is x.due) y.due

@@ -12,8 +12,8 @@ use Rattle.fut_driver.specs.declared.status.Status.TheVariants as status
 use Rattle.command_words.specs.declared.words.Command.{Command}
 use Rattle.command_words.specs.declared.words.Command.TheVariants as command
 use Rattle.command_words.specs.Asking.{most_bytes}
-use Rattle.fut_driver.specs.Given.{Asked, Asks}
-use Rattle.fut_driver.specs.Verdict.{Told, IsRead, IsWellTypedText, IsRefusedRecord, GaveTooMuch, IsGiven, IsOfHistory, IsVerdict, IsFit, IsUnhindered, AsksHistory, IsFree}
+use Rattle.fut_driver.specs.Given.{Asked, Told, Asks}
+use Rattle.fut_driver.specs.Verdict.{IsRead, IsWellTypedText, IsRefusedRecord, GaveTooMuch, IsGiven, IsOfHistory, IsVerdict, IsFit, IsUnhindered, AsksHistory, IsFree}
 use Rattle.command_words.proofs.Wording.{one_command}
 use Rattle.fut_driver.proofs.Coming.{no_syntax, no_type_fault}
 use Rattle.fut_driver.proofs.Consuming.{all_left, not_longer}
@@ -31,7 +31,7 @@ given_typed command.Replay bytes program (h, races, end, given) (P, h', races', 
     let same = one_value bytes program h races end of.program h' races' end' given of.record_is in
     (P, subst (λ p. IsWellTypedText p P) (sym same.0) of.typed)
 given_typed command.Check bytes program given (P, typed) = (P, subst (λ b. IsWellTypedText b P) (sym given) typed)
-given_typed (command.Run _ _) bytes program given (P, typed) = (P, subst (λ b. IsWellTypedText b P) (sym given) typed)
+given_typed (command.Run _ _ _) bytes program given (P, typed) = (P, subst (λ b. IsWellTypedText b P) (sym given) typed)
 
 is_a_run : (bytes : List ℕ) (count : ℕ) → IsFit command.Replay bytes → IsFault bytes count → ⊥
 is_a_run bytes count (P, h, races, end, (of, accepted)) fault = fault.none (of.program, h, races, end, of.record_is)
@@ -64,7 +64,7 @@ not_too_long a t u c words gave =
     absurd (omega (arith, most, gave.long, u.short, same))
 
 asks_history : (a : Asked) (s : Status) (h : List Event) (text : List ℕ) → IsOfHistory a s h text → AsksHistory a
-asks_history a s h text (inl v) = inl (v.bound, v.brief, v.words)
+asks_history a s h text (inl v) = inl (v.bound, v.brief, v.workers, v.words)
 asks_history a s h text (inr v) = inr v.words
 
 pub complete : (a : Asked) (t : Told) (s : Status) (h : List Event) (text : List ℕ) → IsVerdict a s h text → IsUnhindered a t → IsFree a s

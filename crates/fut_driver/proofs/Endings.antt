@@ -16,6 +16,7 @@ use Rattle.fut_check.specs.Items.{IsWellTyped}
 use Rattle.task_code.specs.Flat.{Compiled, IsCodeOf}
 use Rattle.run_record.specs.Records.{AreNumbered, IsFault, IsFinish}
 use Rattle.run_replay.specs.Serials.{IsSerialRun}
+use Rattle.fut_engine.specs.Runs.{IsRun}
 use Rattle.run_check.specs.Checks.{IsAccepted}
 use Rattle.run_check.proofs.Within.{accepted_are_within}
 use Rattle.fut_driver.specs.declared.status.Status.{Status}
@@ -71,15 +72,15 @@ says (finish.Local t) races = (refl, not_whole_local t)
 says (finish.Futures t) races = (refl, not_whole_futures t)
 
 -- a run is what a replay accepts
-accepted_run : (P : tree.Program) (bound : ℕ) (h : List Event) (races : List Race) (end : Finish) (cells : List ℤ) → IsRunOf P bound h end races cells → IsAccepted P h races end
-accepted_run P bound h races end cells r = record { legal = (r.run.machine, r.run.leads); those = (r.report, r.run.holds) }
+accepted_run : (P : tree.Program) (workers bound : ℕ) (h : List Event) (races : List Race) (end : Finish) (cells : List ℤ) → IsRunOf P workers bound h end races cells → IsAccepted P h races end
+accepted_run P workers bound h races end cells r = record { legal = (r.run.machine, r.run.leads); those = (r.report, r.run.holds) }
 
-pub ran_as : (P : tree.Program) (bound : ℕ) (brief : Bool) (text : List ℕ) (s : Status) (h : List Event) (made : List ℕ) (code : Compiled) (races : List Race) (end : Finish) (cells : List ℤ) → s ≡ ending_of end races → IsSerialRun P (limits_of bound) h end cells → IsReport h races → made ≡ run_due brief text code.arrays h races end cells → IsCodeOf P code → IsWellTyped P → IsBound bound → length text ≤ 1048576 → AreNumbered h → IsFinish end → RanAs P bound brief text s h made
-ran_as P bound brief text s h made code races end cells is run report due of typed bounded short numbered finished =
-    let ran : IsRunOf P bound h end races cells = record { run = run; report = report } in
+pub ran_as : (P : tree.Program) (workers bound : ℕ) (brief : Bool) (text : List ℕ) (s : Status) (h : List Event) (made : List ℕ) (code : Compiled) (races : List Race) (end : Finish) (cells : List ℤ) → s ≡ ending_of end races → IsRun P (limits_of bound) h end cells → (workers ≡ 1 → IsSerialRun P (limits_of bound) h end cells) → IsReport h races → made ≡ run_due brief text code.arrays h races end cells → IsCodeOf P code → IsWellTyped P → IsBound bound → length text ≤ 1048576 → AreNumbered h → IsFinish end → RanAs P workers bound brief text s h made
+ran_as P workers bound brief text s h made code races end cells is run serial report due of typed bounded short numbered finished =
+    let ran : IsRunOf P workers bound h end races cells = record { run = run; serial = serial; report = report } in
     let few : length h ≤ bound = run.few in
     let most : bound ≤ 1000000 = bounded.1 in
-    let within = accepted_are_within P text h races end typed (accepted_run P bound h races end cells ran) short (omega arith) numbered finished in
+    let within = accepted_are_within P text h races end typed (accepted_run P workers bound h races end cells ran) short (omega arith) numbered finished in
     record {
       races = races;
       end = end;
@@ -92,10 +93,11 @@ ran_as P bound brief text s h made code races end cells is run report due of typ
 
 -- ---- verdicts
 
-of_run : (a : Asked) (bound : ℕ) (brief : Bool) (text : List ℕ) (P : tree.Program) (s : Status) (h : List Event) (made : List ℕ) → Asks a (command.Run bound brief) → IsRead a (command.Run bound brief) text → IsWellTypedText text P → RanAs P bound brief text s h made → IsOfHistory a s h made
-of_run a bound brief text P s h made words read typed r = inl (record {
+of_run : (a : Asked) (workers bound : ℕ) (brief : Bool) (text : List ℕ) (P : tree.Program) (s : Status) (h : List Event) (made : List ℕ) → Asks a (command.Run bound brief workers) → IsRead a (command.Run bound brief workers) text → IsWellTypedText text P → RanAs P workers bound brief text s h made → IsOfHistory a s h made
+of_run a workers bound brief text P s h made words read typed r = inl (record {
   bound = bound;
   brief = brief;
+  workers = workers;
   words = words;
   bytes = text;
   read = read;
@@ -106,23 +108,23 @@ of_run a bound brief text P s h made words read typed r = inl (record {
   cells = r.cells;
   ends = r.ends;
   is_due = r.text_is;
-  replayed = λ no. (record { program = text; record_is = r.recorded no; typed = typed }, accepted_run P bound h r.races r.end r.cells r.ends.0);
+  replayed = λ no. (record { program = text; record_is = r.recorded no; typed = typed }, accepted_run P workers bound h r.races r.end r.cells r.ends.0);
 })
 
-pub run_verdict : (a : Asked) (bound : ℕ) (brief : Bool) (text : List ℕ) (P : tree.Program) (s : Status) (h : List Event) (made : List ℕ) → IsWellTypedText text P → RanAs P bound brief text s h made → Asks a (command.Run bound brief) → IsRead a (command.Run bound brief) text → IsVerdict a s h (due_text s made)
-run_verdict a bound brief text P status.Clean h made typed r words read = of_run a bound brief text P status.Clean h made words read typed r
-run_verdict a bound brief text P status.Raced h made typed r words read = of_run a bound brief text P status.Raced h made words read typed r
-run_verdict a bound brief text P (status.Spent end) h made typed r words read = of_run a bound brief text P (status.Spent end) h made words read typed r
-run_verdict a bound brief text P status.Accepted h made typed r words read = absurd r.ends.1
-run_verdict a bound brief text P (status.Syntax line column) h made typed r words read = absurd r.ends.1
-run_verdict a bound brief text P (status.IllTyped rule line column) h made typed r words read = absurd r.ends.1
-run_verdict a bound brief text P (status.NotLegal entry) h made typed r words read = absurd r.ends.1
-run_verdict a bound brief text P (status.NotRun byte) h made typed r words read = absurd r.ends.1
-run_verdict a bound brief text P status.ReadFault h made typed r words read = absurd r.ends.1
-run_verdict a bound brief text P status.WriteFault h made typed r words read = absurd r.ends.1
-run_verdict a bound brief text P status.NoMemory h made typed r words read = absurd r.ends.1
-run_verdict a bound brief text P status.Usage h made typed r words read = absurd r.ends.1
-run_verdict a bound brief text P status.TooLong h made typed r words read = absurd r.ends.1
+pub run_verdict : (a : Asked) (workers bound : ℕ) (brief : Bool) (text : List ℕ) (P : tree.Program) (s : Status) (h : List Event) (made : List ℕ) → IsWellTypedText text P → RanAs P workers bound brief text s h made → Asks a (command.Run bound brief workers) → IsRead a (command.Run bound brief workers) text → IsVerdict a s h (due_text s made)
+run_verdict a workers bound brief text P status.Clean h made typed r words read = of_run a workers bound brief text P status.Clean h made words read typed r
+run_verdict a workers bound brief text P status.Raced h made typed r words read = of_run a workers bound brief text P status.Raced h made words read typed r
+run_verdict a workers bound brief text P (status.Spent end) h made typed r words read = of_run a workers bound brief text P (status.Spent end) h made words read typed r
+run_verdict a workers bound brief text P status.Accepted h made typed r words read = absurd r.ends.1
+run_verdict a workers bound brief text P (status.Syntax line column) h made typed r words read = absurd r.ends.1
+run_verdict a workers bound brief text P (status.IllTyped rule line column) h made typed r words read = absurd r.ends.1
+run_verdict a workers bound brief text P (status.NotLegal entry) h made typed r words read = absurd r.ends.1
+run_verdict a workers bound brief text P (status.NotRun byte) h made typed r words read = absurd r.ends.1
+run_verdict a workers bound brief text P status.ReadFault h made typed r words read = absurd r.ends.1
+run_verdict a workers bound brief text P status.WriteFault h made typed r words read = absurd r.ends.1
+run_verdict a workers bound brief text P status.NoMemory h made typed r words read = absurd r.ends.1
+run_verdict a workers bound brief text P status.Usage h made typed r words read = absurd r.ends.1
+run_verdict a workers bound brief text P status.TooLong h made typed r words read = absurd r.ends.1
 
 -- a record that was accepted
 record_by : (a : Asked) (bytes : List ℕ) (P : tree.Program) (h : List Event) (races : List Race) (end : Finish) (s : Status) (made : List ℕ) → Says s end races → IsRecordOf bytes P h races end → IsAccepted P h races end → made ≡ legal_text (length h) (length races) → Asks a command.Replay → IsRead a command.Replay bytes → IsOfHistory a s h made

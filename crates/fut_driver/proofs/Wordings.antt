@@ -1,11 +1,11 @@
 -- What is answered depends on the command alone.
-use Rattle.std.proofs.Common.{ℕ, Bool, true, false, List, [], ◌∷◌, codes, inl, inr, refl, subst}
+use Rattle.std.proofs.Common.{◌≡◌, ℕ, ◌+◌, ◌≤◌, Bool, true, false, List, [], ◌∷◌, codes, inl, inr, refl, ap, subst, arith}
 use Rattle.fut_base.specs.declared.event.Event.{Event}
 use Rattle.command_words.specs.declared.options.Choice.{Choice}
 use Rattle.command_words.specs.declared.options.Choice.TheVariants as choice
 use Rattle.command_words.specs.declared.words.Command.{Command}
 use Rattle.command_words.specs.declared.words.Command.TheVariants as command
-use Rattle.command_words.specs.Asking.{MayStand, EachMayStand, AreOptions, AreWordsOf, most_bytes}
+use Rattle.command_words.specs.Asking.{count, is_events, is_brief, is_workers, MayStand, EachMayStand, AreOptions, AreWordsOf, most_bytes}
 use Rattle.command_words.proofs.Wording.{one_command}
 use Rattle.fut_driver.specs.declared.status.Status.{Status}
 use Rattle.fut_driver.specs.declared.status.Status.TheVariants as status
@@ -29,9 +29,10 @@ module _ (a : Asked) (may_run : Bool) (words : List (List ℕ)) where
     history_so s h text (inl v) = inl (record {
       bound = v.bound;
       brief = v.brief;
-      words = asks_so (command.Run v.bound v.brief) v.words;
+      workers = v.workers;
+      words = asks_so (command.Run v.bound v.brief v.workers) v.words;
       bytes = v.bytes;
-      read = read_so (command.Run v.bound v.brief) v.bytes v.read;
+      read = read_so (command.Run v.bound v.brief v.workers) v.bytes v.read;
       tree = v.tree;
       program = v.program;
       races = v.races;
@@ -81,30 +82,43 @@ module _ (a : Asked) (may_run : Bool) (words : List (List ℕ)) where
 pub command_decides : CommandDecides
 command_decides a may_run words c s h text asks others v = verdict_so a may_run words c asks others s h text v
 
--- ---- the options of `serial` are options of `run`
+-- ---- `serial` with options, and `run` with one worker and them
+
+-- no option is `--workers`
+none_names : (cs : List Choice) → EachMayStand false cs → count is_workers cs ≡ 0
+none_names [] each = refl
+none_names (choice.Events n ∷ cs) each = let none = none_names cs each.1 in omega (arith, none)
+none_names (choice.Brief ∷ cs) each = let none = none_names cs each.1 in omega (arith, none)
+none_names (choice.Workers n ∷ cs) each = absurd (let no : false ≡ true = each.0.0 in cc)
 
 may_stand : (c : Choice) → MayStand false c → MayStand true c
 may_stand (choice.Events n) may = may
 may_stand choice.Brief may = may
-may_stand choice.Workers may = refl
+may_stand (choice.Workers n) may = absurd (let no : false ≡ true = may.0 in cc)
 
 each_may_stand : (cs : List Choice) → EachMayStand false cs → EachMayStand true cs
 each_may_stand [] each = tt
 each_may_stand (c ∷ cs) each = (may_stand c each.0, each_may_stand cs each.1)
 
-run_options : (words : List (List ℕ)) (bound : ℕ) (brief : Bool) → AreOptions false words bound brief → AreOptions true words bound brief
-run_options words bound brief o = record {
-  choices = o.choices;
-  written = o.written;
-  allowed = each_may_stand o.choices o.allowed;
-  once = o.once;
-  bound = o.bound;
-  brief_is = o.brief_is;
-}
+run_options : (words : List (List ℕ)) (bound : ℕ) (brief : Bool) (workers : ℕ) → AreOptions false words bound brief workers → AreOptions true (codes "--workers" ∷ (codes "1" ∷ words)) bound brief 1
+run_options words bound brief workers o =
+    let none = none_names o.choices o.allowed in
+    let events : 0 + count is_events o.choices ≤ 1 = o.once.events in
+    let briefs : 0 + count is_brief o.choices ≤ 1 = o.once.brief in
+    record {
+      choices = choice.Workers 1 ∷ o.choices;
+      written = ap (λ ws. codes "--workers" ∷ (codes "1" ∷ ws)) o.written;
+      allowed = ((refl, (omega arith, omega arith)), each_may_stand o.choices o.allowed);
+      once = record { events = omega (arith, events); brief = omega (arith, briefs); workers = omega (arith, none) };
+      bound = o.bound;
+      brief_is = o.brief_is;
+      workers_are = refl;
+    }
 
 pub run_is_serial : RunIsSerial
 run_is_serial a options bound brief s h text is o =
-    let c = command.Run bound brief in
+    let c = command.Run bound brief 1 in
+    let words = codes "run" ∷ (codes "--workers" ∷ (codes "1" ∷ options)) in
     let serial : Asks a c = inl (options, is, o) in
-    let run : AreWordsOf true (codes "run" ∷ options) c = inr (options, refl, refl, run_options options bound brief o) in
-    (command_decides a true (codes "run" ∷ options) c s h text serial run, command_decides (with_words a true (codes "run" ∷ options)) a.may_run a.words c s h text run serial)
+    let run : AreWordsOf true words c = inr (codes "--workers" ∷ (codes "1" ∷ options), refl, refl, run_options options bound brief 1 o) in
+    (command_decides a true words c s h text serial run, command_decides (with_words a true words) a.may_run a.words c s h text run serial)

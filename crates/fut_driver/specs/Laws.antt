@@ -15,9 +15,13 @@ pub record IsTold (a : Asked) (bytes : List ℕ) : Type 0 where
   pub left : a.left_before ≡ Some bytes
   pub can_rise : a.faults_before < 2 ^ 64 - 1
 
--- no two verdicts of one call hold, but for want of memory
+-- where the words ask for a run, it is one on one worker
+abbrev pub AsksOneWorker : Asked → Type 0
+AsksOneWorker a = (bound : ℕ) (brief : Bool) (workers : ℕ) → Asks a (command.Run bound brief workers) → workers ≡ 1
+
+-- no two verdicts of one call hold, but for want of memory, and but for runs on several workers, which may differ
 abbrev pub OneVerdict : Type 0
-OneVerdict = (a : Asked) (bytes : List ℕ) (s r : Status) (h g : List Event) (text other : List ℕ) → IsTold a bytes
+OneVerdict = (a : Asked) (bytes : List ℕ) (s r : Status) (h g : List Event) (text other : List ℕ) → IsTold a bytes → AsksOneWorker a
     → IsVerdict a s h text → IsVerdict a r g other → s ≢ status.NoMemory → r ≢ status.NoMemory → (s ≡ r) × (h ≡ g) × (text ≡ other)
 
 -- two calls with the same words, over sources that have the same bytes left, of which both failed or none
@@ -28,9 +32,9 @@ pub record AreAlike (a b : Asked) (bytes : List ℕ) : Type 0 where
   pub other_told : IsTold b bytes
   pub failed : Rose a.faults_before a.faults_after ↔ Rose b.faults_before b.faults_after
 
--- they have the same verdict, but for want of memory
+-- they have the same verdict, but for want of memory and for runs on several workers
 abbrev pub SameVerdict : Type 0
-SameVerdict = (a b : Asked) (bytes : List ℕ) (s r : Status) (h g : List Event) (text other : List ℕ) → AreAlike a b bytes
+SameVerdict = (a b : Asked) (bytes : List ℕ) (s r : Status) (h g : List Event) (text other : List ℕ) → AreAlike a b bytes → AsksOneWorker a
     → IsVerdict a s h text → IsVerdict b r g other → s ≢ status.NoMemory → r ≢ status.NoMemory → (s ≡ r) × (h ≡ g) × (text ≡ other)
 
 -- the status says how a run ended
@@ -40,10 +44,10 @@ TellsRun status.Raced = Unit {0}
 TellsRun (status.Spent _) = Unit {0}
 TellsRun _ = ⊥
 
--- a replay of the record that a run wrote is answered with the run's status and history, but for want of memory
+-- a replay of the record that a run wrote, on any number of workers, is answered with the run's status and history, but for want of memory
 abbrev pub ReplayAnswersRun : Type 0
-ReplayAnswersRun = (a b : Asked) (bound : ℕ) (s r : Status) (h g : List Event) (text other : List ℕ)
-    → Asks a (command.Run bound false) → TellsRun s → IsVerdict a s h text
+ReplayAnswersRun = (a b : Asked) (bound workers : ℕ) (s r : Status) (h g : List Event) (text other : List ℕ)
+    → Asks a (command.Run bound false workers) → TellsRun s → IsVerdict a s h text
     → Asks b command.Replay → b.left_before ≡ Some text → length text ≤ most_bytes command.Replay → (Rose b.faults_before b.faults_after → ⊥)
     → IsVerdict b r g other → r ≢ status.NoMemory → (r ≡ s) × (g ≡ h)
 
@@ -67,5 +71,5 @@ CommandDecides = (a : Asked) (may_run : Bool) (words : List (List ℕ)) (c : Com
 -- `run` with one worker has the verdicts of `serial` with the same options
 abbrev pub RunIsSerial : Type 0
 RunIsSerial = (a : Asked) (options : List (List ℕ)) (bound : ℕ) (brief : Bool) (s : Status) (h : List Event) (text : List ℕ)
-    → a.words ≡ codes "serial" ∷ options → AreOptions false options bound brief
-    → IsVerdict a s h text ↔ IsVerdict (with_words a true (codes "run" ∷ options)) s h text
+    → a.words ≡ codes "serial" ∷ options → AreOptions false options bound brief 1
+    → IsVerdict a s h text ↔ IsVerdict (with_words a true (codes "run" ∷ (codes "--workers" ∷ (codes "1" ∷ options)))) s h text

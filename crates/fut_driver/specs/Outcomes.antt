@@ -51,13 +51,13 @@ status_of (refusal.Syntax line column) = status.Syntax line column
 status_of (refusal.IllTyped rule line column) = status.IllTyped rule line column
 status_of refusal.NoMemory = status.NoMemory
 
--- a program was run, and this text was made of the run
-pub record RanAs (P : tree.Program) (bound : ℕ) (brief : Bool) (text : List ℕ) (s : Status) (h : List Event) (made : List ℕ) : Type 0 where
+-- a program was run, on so many workers, and this text was made of the run
+pub record RanAs (P : tree.Program) (workers bound : ℕ) (brief : Bool) (text : List ℕ) (s : Status) (h : List Event) (made : List ℕ) : Type 0 where
   pub races : List Race
   pub end : Finish
   pub cells : List ℤ
   pub status : s ≡ ending_of end races
-  pub ends : EndsIn P bound s end h races cells
+  pub ends : EndsIn P workers bound s end h races cells
   pub text_is : made ≡ run_due brief text (cell_arrays P) h races end cells
   pub recorded : brief ≡ false → IsRunText made text h races end
 

@@ -14,10 +14,10 @@ use Rattle.fut_driver.specs.declared.line.Line.{Line}
 use Rattle.fut_driver.specs.declared.line.Line.TheVariants as line
 use Rattle.fut_driver.specs.declared.status.Status.{Status}
 use Rattle.fut_driver.specs.declared.status.Status.TheVariants as status
-use Rattle.fut_driver.specs.Given.{Asked}
+use Rattle.fut_driver.specs.Given.{Asked, Told}
 use Rattle.fut_driver.specs.Due.{due_text}
 use Rattle.fut_driver.specs.Numbers.{status_number}
-use Rattle.fut_driver.specs.Verdict.{Told, IsAnswer}
+use Rattle.fut_driver.specs.Verdict.{IsAnswer}
 
 -- what was given is this command line: its words without the first, which is the program's name; that they were no words; or
 -- that there was no memory for them

@@ -19,10 +19,11 @@ use Rattle.fut_rules.specs.Faults.{rule_number}
 use Rattle.fut_check.specs.Items.{IsWellTyped, IsFirstFault}
 use Rattle.task_machine.specs.Texts.{cell_arrays}
 use Rattle.run_replay.specs.Serials.{IsSerialRun}
+use Rattle.fut_engine.specs.Runs.{IsRun}
 use Rattle.run_check.specs.Checks.{IsAccepted, IsRefusedAt}
 use Rattle.run_record.specs.Records.{IsRunText, IsFault}
 use Rattle.command_words.specs.Asking.{most_bytes}
-use Rattle.fut_driver.specs.Given.{Asked, Asks}
+use Rattle.fut_driver.specs.Given.{Asked, Told, Asks}
 use Rattle.fut_driver.specs.Due.{syntax_text, type_text, legal_text, not_legal_text, not_run_text, run_due}
 use Rattle.fut_driver.specs.declared.status.Status.{Status}
 use Rattle.fut_driver.specs.declared.status.Status.TheVariants as status
@@ -75,10 +76,11 @@ IsPrinted bytes printed = (P : tree.Program) × IsWellTypedText bytes P × (prin
 abbrev pub limits_of : ℕ → Limits
 limits_of bound = record { events = bound; local_steps = 1000000; futures = 4096 }
 
--- a history is the serial run of a program up to so many entries, which ended so with these values in its cells, and these are
--- its races
-pub record IsRunOf (P : tree.Program) (bound : ℕ) (h : List Event) (end : Finish) (races : List Race) (cells : List ℤ) : Type 0 where
-  pub run : IsSerialRun P (limits_of bound) h end cells
+-- a history is a run of a program up to so many entries, the serial one where there is one worker, which ended so with these
+-- values in its cells, and these are its races
+pub record IsRunOf (P : tree.Program) (workers bound : ℕ) (h : List Event) (end : Finish) (races : List Race) (cells : List ℤ) : Type 0 where
+  pub run : IsRun P (limits_of bound) h end cells
+  pub serial : workers ≡ 1 → IsSerialRun P (limits_of bound) h end cells
   pub report : IsReport h races
 
 -- a status says how a run ended that has these races: whole without a race, whole with one, or spent
@@ -89,8 +91,8 @@ Says (status.Spent spent) end races = (end ≡ spent) × (end ≢ finish.Whole)
 Says _ end races = ⊥
 
 -- a program was run, and the status says how that run ended
-abbrev pub EndsIn : tree.Program → ℕ → Status → Finish → List Event → List Race → List ℤ → Type 0
-EndsIn P bound s end h races cells = IsRunOf P bound h end races cells × Says s end races
+abbrev pub EndsIn : tree.Program → ℕ → ℕ → Status → Finish → List Event → List Race → List ℤ → Type 0
+EndsIn P workers bound s end h races cells = IsRunOf P workers bound h end races cells × Says s end races
 
 -- ---- verdicts
 
@@ -109,15 +111,16 @@ IsGoodRecord bytes P h races end = IsRecordOf bytes P h races end × IsAccepted 
 pub record IsOfRun (a : Asked) (s : Status) (h : List Event) (text : List ℕ) : Type 0 where
   pub bound : ℕ
   pub brief : Bool
-  pub words : Asks a (command.Run bound brief)
+  pub workers : ℕ
+  pub words : Asks a (command.Run bound brief workers)
   pub bytes : List ℕ
-  pub read : IsRead a (command.Run bound brief) bytes
+  pub read : IsRead a (command.Run bound brief workers) bytes
   pub tree : tree.Program
   pub program : IsWellTypedText bytes tree
   pub races : List Race
   pub end : Finish
   pub cells : List ℤ
-  pub ends : EndsIn tree bound s end h races cells
+  pub ends : EndsIn tree workers bound s end h races cells
   pub is_due : text ≡ run_due brief bytes (cell_arrays tree) h races end cells
   pub replayed : brief ≡ false → IsGoodRecord text tree h races end
 
@@ -142,7 +145,7 @@ IsOfHistory a s h text = IsOfRun a s h text ⊎ IsOfRecord a s h text
 abbrev pub IsGiven : Command → List ℕ → List ℕ → Type 0
 IsGiven command.Replay bytes program = (h : List Event) × (races : List Race) × (end : Finish) × IsRunText bytes program h races end
 IsGiven command.Check bytes program = program ≡ bytes
-IsGiven (command.Run bound brief) bytes program = program ≡ bytes
+IsGiven (command.Run bound brief workers) bytes program = program ≡ bytes
 
 -- the words ask for this command, no run was made, and this is due; all the source's bytes were read, and this holds of them
 pub record IsOfBytes (a : Asked) (c : Command) (h : List Event) (text due : List ℕ) (Holds : List ℕ → Type 0) : Type 0 where
@@ -198,13 +201,6 @@ IsVerdict a status.Usage h text =
 -- that a put failed is no verdict of its own
 IsVerdict a status.WriteFault h text = ⊥
 
--- what the sink held before and after a call, and its count of faults before and after it
-pub record Told : Type 0 where
-  pub held_before : Option (List ℕ)
-  pub held_after : Option (List ℕ)
-  pub faults_before : ℕ
-  pub faults_after : ℕ
-
 -- the text of a verdict was added to the sink, where it tells what it holds
 pub record IsAnswered (a : Asked) (t : Told) (s : Status) (h : List Event) : Type 0 where
   pub text : List ℕ
@@ -228,7 +224,7 @@ IsAnswer a t s h = IsAnswered a t s h
 
 -- the words ask for a run, or for a replay
 abbrev pub AsksHistory : Asked → Type 0
-AsksHistory a = ((bound : ℕ) × (brief : Bool) × Asks a (command.Run bound brief)) ⊎ Asks a command.Replay
+AsksHistory a = ((bound : ℕ) × (brief : Bool) × (workers : ℕ) × Asks a (command.Run bound brief workers)) ⊎ Asks a command.Replay
 
 -- the answers to what nothing hinders
 abbrev pub IsFree : Asked → Status → Type 0
@@ -242,7 +238,7 @@ IsFree a _ = ⊥
 -- the bytes are what a command reads: a program without a fault, or a record of one that is accepted
 abbrev pub IsFit : Command → List ℕ → Type 0
 IsFit command.Check bytes = (P : tree.Program) × IsWellTypedText bytes P
-IsFit (command.Run bound brief) bytes = (P : tree.Program) × IsWellTypedText bytes P
+IsFit (command.Run bound brief workers) bytes = (P : tree.Program) × IsWellTypedText bytes P
 IsFit command.Replay bytes =
     (P : tree.Program) × (h : List Event) × (races : List Race) × (end : Finish) × IsGoodRecord bytes P h races end
 

@@ -2,12 +2,13 @@
 ghost use Rattle.std.specs.Prelude.{◌≡◌, ◌≤◌, length};
 ghost use Rattle.fut_base.specs.Events.{events_of};
 ghost use Rattle.command_words.specs.Asking.{IsBounded, most_bytes};
-ghost use Rattle.fut_driver.specs.Given.{Asked};
+ghost use Rattle.fut_driver.specs.Given.{Asked, asked_of};
 ghost use Rattle.fut_driver.specs.Verdict.{IsVerdict};
 ghost use Rattle.fut_driver.specs.Due.{due_text};
 ghost use Rattle.fut_driver.specs.Outcomes.{IsOutcome};
 ghost use Rattle.fut_driver.specs.declared.status.Status.TheVariants as status;
 
+use crate::engine::Engine;
 use crate::input::{Input, read_all};
 use crate::outcome::Outcome;
 use crate::replay::replay_text;
@@ -35,30 +36,32 @@ fn longest(command: Command) -> usize
 }
 
 /// What comes of the bytes that a command read.
-fn outcome_of(alloc: Global, command: Command, bytes: &[u8]) -> Outcome
+fn outcome_of<E: Engine>(alloc: Global, command: Command, bytes: &[u8], engine: &E) -> Outcome
     requires short { length bytes.now ≤ most_bytes command }
     requires bounded { IsBounded command }
     ensures { IsOutcome command bytes.now result.status (events_of result.history) result.text.items }
 {
     match command {
         Command::Check => check_text(alloc, bytes),
-        Command::Run { events, brief } => run_text(alloc, bytes, events, brief),
+        Command::Run {
+            events,
+            brief,
+            workers,
+        } => run_text(alloc, bytes, events, brief, workers, engine),
         Command::Replay => replay_text(alloc, bytes),
     }
 }
 
 /// Reads the text where the words ask for something, and does it.
-pub fn judge<S: Source>(alloc: Global, words: &Words, may_run: bool, source: &mut S) -> Outcome
+pub fn judge<S: Source, E: Engine>(
+    alloc: Global,
+    words: &Words,
+    may_run: bool,
+    source: &mut S,
+    engine: &E,
+) -> Outcome
     ensures verdict { IsVerdict
-        (record {
-          may_run = may_run;
-          words = words.now;
-          left_before = S.left source.old;
-          left_after = S.left source.new;
-          ended = S.ended source.new;
-          faults_before = S.faults source.old;
-          faults_after = S.faults source.new;
-        })
+        (asked_of may_run words.now S.left S.ended S.faults source.old source.new)
         result.status (events_of result.history) (due_text result.status result.text.items) }
     ensures usage { result.status ≡ status.Usage → source.new ≡ source.old }
 {
@@ -69,7 +72,7 @@ pub fn judge<S: Source>(alloc: Global, words: &Words, may_run: bool, source: &mu
         return Outcome::bare(alloc, Status::NoMemory);
     }
     match read_all(alloc, source, longest(command)) {
-        Input::Whole(bytes) => outcome_of(alloc, command, bytes.as_slice()),
+        Input::Whole(bytes) => outcome_of(alloc, command, bytes.as_slice(), engine),
         Input::TooLong => Outcome::bare(alloc, Status::TooLong),
         Input::Failed => Outcome::bare(alloc, Status::ReadFault),
         Input::NoMemory => Outcome::bare(alloc, Status::NoMemory),

@@ -7,6 +7,7 @@
 #![tactic(auto)]
 
 pub mod clean;
+pub mod engine;
 mod gathered;
 mod input;
 mod judge;

@@ -3,9 +3,8 @@ ghost use Rattle.std.specs.Prelude.{◌≡◌, true};
 ghost use Rattle.std.specs.Process.{exit_status};
 ghost use Rattle.fut_base.specs.Events.{events_of};
 ghost use Rattle.fut_driver.specs.declared.line.Line.{Line};
-ghost use Rattle.fut_driver.specs.Given.{Asked};
+ghost use Rattle.fut_driver.specs.Given.{Asked, Told, asked_of, told_of};
 ghost use Rattle.fut_driver.specs.Process.{EndsWith, HasWords, IsLineAnswer, IsLineOf, IsRefusal};
-ghost use Rattle.fut_driver.specs.Verdict.{Told};
 
 use crate::line::{Line, line_of};
 use crate::outcome::Outcome;
@@ -18,11 +17,13 @@ use std::alloc::Global;
 use std::env::Args;
 use std::io;
 use std::process::ExitCode;
+use std::sync::Wait;
+use std::thread::Threads;
 
 /// Does what the command line asks for, and gives the number of the status. The first word is the program's name. Where a word is
 /// not UTF-8 the status is `Usage`, and the line of that status is written; where there was no memory for the words it is `NoMemory`, and
 /// nothing is written. In both cases nothing is read.
-pub fn carry_out<R, S: Source, K: Sink, G: Gate>(
+pub fn carry_out<R: Threads + Wait + Sync, S: Source, K: Sink, G: Gate + Sync>(
     rt: &R,
     alloc: Global,
     given: io::Result<Args>,
@@ -31,16 +32,8 @@ pub fn carry_out<R, S: Source, K: Sink, G: Gate>(
     gate: &G,
 ) -> ExitCode
     ensures { (line : Line) × IsLineOf given line × EndsWith line
-        (λ words. record {
-          may_run = true;
-          words = words;
-          left_before = S.left source.old;
-          left_after = S.left source.new;
-          ended = S.ended source.new;
-          faults_before = S.faults source.old;
-          faults_after = S.faults source.new;
-        })
-        (record { held_before = K.held out.old; held_after = K.held out.new; faults_before = K.faults out.old; faults_after = K.faults out.new })
+        (λ words. asked_of true words S.left S.ended S.faults source.old source.new)
+        (told_of K.held K.faults out.old out.new)
         (exit_status result) }
 {
     let line = line_of(alloc, given);
@@ -49,7 +42,7 @@ pub fn carry_out<R, S: Source, K: Sink, G: Gate>(
 }
 
 /// Does what the words of a command line ask for.
-pub fn answer_line<R, S: Source, K: Sink, G: Gate>(
+pub fn answer_line<R: Threads + Wait + Sync, S: Source, K: Sink, G: Gate + Sync>(
     rt: &R,
     alloc: Global,
     line: &Line,
@@ -58,16 +51,8 @@ pub fn answer_line<R, S: Source, K: Sink, G: Gate>(
     gate: &G,
 ) -> Ended
     ensures answer { IsLineAnswer line.now
-        (λ words. record {
-          may_run = true;
-          words = words;
-          left_before = S.left source.old;
-          left_after = S.left source.new;
-          ended = S.ended source.new;
-          faults_before = S.faults source.old;
-          faults_after = S.faults source.new;
-        })
-        (record { held_before = K.held out.old; held_after = K.held out.new; faults_before = K.faults out.old; faults_after = K.faults out.new })
+        (λ words. asked_of true words S.left S.ended S.faults source.old source.new)
+        (told_of K.held K.faults out.old out.new)
         result.status (events_of result.history) }
 
     // Where it has no words nothing is read.
@@ -86,7 +71,7 @@ pub fn answer_line<R, S: Source, K: Sink, G: Gate>(
 /// Writes the line of a status.
 fn refuse<K: Sink>(alloc: Global, status: Status, out: &mut K) -> Ended
     ensures { IsRefusal
-        (record { held_before = K.held out.old; held_after = K.held out.new; faults_before = K.faults out.old; faults_after = K.faults out.new })
+        (told_of K.held K.faults out.old out.new)
         status result.status (events_of result.history) }
 {
     let outcome = Outcome::bare(alloc, status);

@@ -7,14 +7,16 @@ mod records;
 mod replays;
 mod runs;
 mod words;
+mod workers;
 
 use crate::status::{Ended, Status};
 use crate::top::forder;
 use command_words::words::Words;
 use fut_base::gate::FreeGate;
 use fut_base::memory::{MemSink, MemSource};
-use std::alloc::Global;
+use std::sync::Wait;
 use std::test::Fail;
+use std::thread::Threads;
 
 /// The words for a run.
 pub const RUN: [&str; 3] = ["run", "--workers", "1"];
@@ -60,21 +62,22 @@ impl Answer {
 }
 
 /// Calls forder over a source and a sink in memory that give and take so much a call and fail at these calls.
-pub fn call_forder(
-    alloc: Global,
+pub fn call_forder<R: AllocGlobal + Threads + Wait + Sync>(
+    rt: &R,
     words: &[&str],
     text: &[u8],
     most: usize,
     take_fails: &[u64],
     put_fails: &[u64],
 ) -> Result<Answer, Fail> {
+    let alloc = rt.alloc();
     let mut given = Words::make(alloc);
     for word in words {
         given.push(word)?;
     }
     let mut source = MemSource::make(alloc, text, most.max(1), take_fails)?;
     let mut out = MemSink::make(alloc, 32_000_000, most.max(1), put_fails)?;
-    let Ended { status, history } = forder(&(), alloc, &given, &mut source, &mut out, &FreeGate);
+    let Ended { status, history } = forder(rt, alloc, &given, &mut source, &mut out, &FreeGate);
     let text = Vec::from_slice(alloc, out.bytes())?;
     Ok(Answer {
         status,
@@ -84,6 +87,10 @@ pub fn call_forder(
 }
 
 /// The same with nothing in its way.
-pub fn ask(alloc: Global, words: &[&str], text: &[u8]) -> Result<Answer, Fail> {
-    call_forder(alloc, words, text, 4096, &[], &[])
+pub fn ask<R: AllocGlobal + Threads + Wait + Sync>(
+    rt: &R,
+    words: &[&str],
+    text: &[u8],
+) -> Result<Answer, Fail> {
+    call_forder(rt, words, text, 4096, &[], &[])
 }

@@ -8,9 +8,8 @@
 ghost use Rattle.std.specs.Prelude.{true};
 ghost use Rattle.std.specs.Process.{exit_status};
 ghost use Rattle.fut_driver.specs.declared.line.Line.{Line};
-ghost use Rattle.fut_driver.specs.Given.{Asked};
+ghost use Rattle.fut_driver.specs.Given.{Asked, Told, asked_of, told_of};
 ghost use Rattle.fut_driver.specs.Process.{EndsWith};
-ghost use Rattle.fut_driver.specs.Verdict.{Told};
 
 use fut_base::gate::FreeGate;
 use fut_base::ports::{Sink, Source};
@@ -19,20 +18,14 @@ use fut_driver::process::carry_out;
 use std::env;
 use std::env::Env;
 use std::process::ExitCode;
+use std::sync::Wait;
+use std::thread::Threads;
 
 /// Does what the process's words ask for, over this source and this sink. Which words those are the outside decides.
-fn answer<R: Env + AllocGlobal, S: Source, K: Sink>(rt: &R, source: &mut S, out: &mut K) -> ExitCode
+fn answer<R: Env + AllocGlobal + Threads + Wait + Sync, S: Source, K: Sink>(rt: &R, source: &mut S, out: &mut K) -> ExitCode
     ensures { (line : Line) × EndsWith line
-        (λ words. record {
-          may_run = true;
-          words = words;
-          left_before = S.left source.old;
-          left_after = S.left source.new;
-          ended = S.ended source.new;
-          faults_before = S.faults source.old;
-          faults_after = S.faults source.new;
-        })
-        (record { held_before = K.held out.old; held_after = K.held out.new; faults_before = K.faults out.old; faults_after = K.faults out.new })
+        (λ words. asked_of true words S.left S.ended S.faults source.old source.new)
+        (told_of K.held K.faults out.old out.new)
         (exit_status result) }
 {
     carry_out(rt, rt.alloc(), env::args(rt), source, out, &FreeGate)

@@ -85,7 +85,7 @@ fn statements_in_blocks(rt: HostRuntime) -> Result<(), Fail> {
     for outer in &OUTER {
         for inner in &INNER {
             let text = nested(alloc, outer, inner)?;
-            let answer = ask(alloc, &SERIAL, text.as_bytes())?;
+            let answer = ask(&rt, &SERIAL, text.as_bytes())?;
             let end = match outer.times * inner.times {
                 1 => due[0],
                 2 => due[1],
@@ -275,7 +275,7 @@ const CASES: [Case; 13] = [
 fn programs_at_the_limits(rt: HostRuntime) -> Result<(), Fail> {
     for case in &CASES {
         let text = case.text(rt.alloc())?;
-        let answer = ask(rt.alloc(), case.words, text.as_bytes())?;
+        let answer = ask(&rt, case.words, text.as_bytes())?;
         assert_eq!(rt; answer.status.number(), case.status, "{}", case.end);
         assert!(rt; has_end(answer.text.as_slice(), case.end), "{}", case.end);
     }
@@ -308,7 +308,7 @@ fn returns_in_blocks(rt: HostRuntime) -> Result<(), Fail> {
     ];
     for (block, end) in cases {
         let text = format!(in rt.alloc(); "task main() int {{ {block} return 12; }}")?;
-        let answer = ask(rt.alloc(), &SERIAL, text.as_bytes())?;
+        let answer = ask(&rt, &SERIAL, text.as_bytes())?;
         assert_eq!(rt; answer.status, Status::Clean, "{text}");
         assert!(rt; has_end(answer.text.as_slice(), end), "{text}");
     }
@@ -319,7 +319,7 @@ fn returns_in_blocks(rt: HostRuntime) -> Result<(), Fail> {
 fn the_last_create(rt: HostRuntime) -> Result<(), Fail> {
     let text =
         "task f() int { return 0; }\ntask main() int { var h: fut int = create f(); while 1 { h = create f(); } return 0; }\n";
-    let answer = ask(rt.alloc(), &SERIAL, text.as_bytes())?;
+    let answer = ask(&rt, &SERIAL, text.as_bytes())?;
     assert_eq!(rt; answer.status.number(), 4);
     assert_eq!(rt; answer.entries, 8192);
     assert!(rt; answer.ends_in("races 0\nfinish futures 0\nend\n"));
@@ -332,9 +332,9 @@ const LONG: &str = "cells a[1]; task main() int { while 1 { a[0] = 1; } return 0
 #[test]
 fn a_long_record(rt: HostRuntime) -> Result<(), Fail> {
     let words = ["serial", "--events", "600000"];
-    let answer = ask(rt.alloc(), &words, LONG.as_bytes())?;
+    let answer = ask(&rt, &words, LONG.as_bytes())?;
     assert_eq!(rt; answer.entries, 600_000);
-    let replayed = ask(rt.alloc(), &REPLAY, answer.text.as_slice())?;
+    let replayed = ask(&rt, &REPLAY, answer.text.as_slice())?;
     assert_eq!(rt; replayed.status.number(), 4);
     assert_eq!(rt; replayed.entries, 600_000);
     assert_eq!(rt;

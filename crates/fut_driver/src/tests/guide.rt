@@ -1,6 +1,5 @@
 //! The texts of the guide and the examples, with what is said of them there. `tools/guide_cases --write` makes this table.
 use super::ask;
-use std::alloc::Global;
 use std::test::Fail;
 
 /// A text, the words that it is given with, and what comes of it.
@@ -17,7 +16,7 @@ fn has_line(text: &[u8], line: &str) -> bool {
         .any(|part| part == line.as_bytes())
 }
 
-const CASES: [Case; 31] = [
+const CASES: [Case; 32] = [
     Case {
         words: &["serial", "--brief"],
         text: "cells sum[1];\ntask count(n: int) int {\n  var old: int = sum[0];\n  sum[0] = old + n;\n  return 0;\n}\ntask main() int {\n  spawn count(1);\n  spawn count(2);\n  sync;\n  return 0;\n}\n",
@@ -32,7 +31,7 @@ const CASES: [Case; 31] = [
     },
     Case {
         words: &["check"],
-        text: "cells a[4];\ncells total[1];\ntask leaf(n: int) int { a[n] = n * n; return n; }\ntask pass(h: fut int) fut int { return h; }\ntask main() int {\n  var i: int;\n  while i < 4 { spawn leaf(i); i = i + 1; }\n  sync;\n  var h: fut int = create leaf(5);\n  var row: fut int[3] = h;\n  row[1] = create leaf2(6);\n  return 0;\n}\n",
+        text: "cells a[4];\ncells total[1];\ntask leaf(n: int) int { a[n] = n * n; return n; }\ntask pass(h: fut int) fut int { return h; }\ntask main() int {\n  var i: int;\n  while i < 4 { spawn leaf(i); i = i + 1; }\n  sync;\n  var h: fut int = create leaf(5);\n  var row: fut int[3] = h;\n  row[1] = create leaf(6);\n  return 0;\n}\n",
         status: 2,
         line: "syntax 11:12",
     },
@@ -145,6 +144,12 @@ const CASES: [Case; 31] = [
         line: "finish events 10",
     },
     Case {
+        words: &["run", "--workers", "4", "--brief"],
+        text: "cells a[2];\ntask set(i: int) int { a[i] = i; return 0; }\ntask main() int {\n  spawn set(0);\n  spawn set(1);\n  sync;\n  var x: int = a[0];\n  var y: int = a[1];\n  return x + y;\n}\n",
+        status: 0,
+        line: "events 10",
+    },
+    Case {
         words: &["serial"],
         text: "cells a[1];\ntask kid() int { a[0] = 1; return 0; }\ntask main() int { spawn kid(); a[0] = 2; sync; return 0; }\n",
         status: 1,
@@ -209,7 +214,7 @@ const CASES: [Case; 31] = [
 #[test]
 fn guide_and_examples_say_what_comes(rt: HostRuntime) -> Result<(), Fail> {
     for case in &CASES {
-        let answer = ask(rt.alloc(), case.words, case.text.as_bytes())?;
+        let answer = ask(&rt, case.words, case.text.as_bytes())?;
         assert_eq!(rt; answer.status.number(), case.status);
         assert!(rt; has_line(answer.text.as_slice(), case.line));
     }

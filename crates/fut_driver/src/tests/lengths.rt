@@ -86,7 +86,7 @@ fn the_longest_texts(rt: HostRuntime) -> Result<(), Fail> {
             ended: false,
         };
         let mut out = MemSink::make(alloc, 2_000_000, 2_000_000, &[])?;
-        let answer = forder(&(), alloc, &given, &mut source, &mut out, &FreeGate);
+        let answer = forder(&rt, alloc, &given, &mut source, &mut out, &FreeGate);
         assert_eq!(rt; answer.status, status, "{left}");
         assert_eq!(rt; source.left, 0);
     }

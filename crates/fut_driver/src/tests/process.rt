@@ -7,7 +7,9 @@ use std::alloc::Global;
 use std::env::Args;
 use std::io;
 use std::process::ExitCode;
+use std::sync::Wait;
 use std::test::Fail;
+use std::thread::Threads;
 
 /// The command line with these words.
 fn line(alloc: Global, words: &[&str]) -> Result<Args, Fail> {
@@ -19,16 +21,17 @@ fn line(alloc: Global, words: &[&str]) -> Result<Args, Fail> {
 }
 
 /// The number that the process ends with, and what it wrote. Takes and puts fail at these calls.
-fn ended(
-    alloc: Global,
+fn ended<R: AllocGlobal + Threads + Wait + Sync>(
+    rt: &R,
     given: io::Result<Args>,
     text: &str,
     take_fails: &[u64],
     put_fails: &[u64],
 ) -> Result<(ExitCode, Vec<u8>), Fail> {
+    let alloc = rt.alloc();
     let mut source = MemSource::make(alloc, text.as_bytes(), 4096, take_fails)?;
     let mut out = MemSink::make(alloc, 1000, 1000, put_fails)?;
-    let code = carry_out(&(), alloc, given, &mut source, &mut out, &FreeGate);
+    let code = carry_out(rt, alloc, given, &mut source, &mut out, &FreeGate);
     Ok((code, Vec::from_slice(alloc, out.bytes())?))
 }
 
@@ -49,13 +52,13 @@ fn numbers_of_statuses(rt: HostRuntime) -> Result<(), Fail> {
         (&[], RACE, 9),
     ];
     for (words, text, number) in cases {
-        let answer = ended(alloc, Ok(line(alloc, words)?), text, &[], &[])?;
+        let answer = ended(&rt, Ok(line(alloc, words)?), text, &[], &[])?;
         assert_eq!(rt; answer.0, ExitCode::from(number));
     }
     let words = ["forder", "serial"];
-    let answer = ended(alloc, Ok(line(alloc, &words)?), RACE, &[0], &[])?;
+    let answer = ended(&rt, Ok(line(alloc, &words)?), RACE, &[0], &[])?;
     assert_eq!(rt; answer.0, ExitCode::from(6));
-    let answer = ended(alloc, Ok(line(alloc, &words)?), RACE, &[], &[0])?;
+    let answer = ended(&rt, Ok(line(alloc, &words)?), RACE, &[], &[0])?;
     assert_eq!(rt; answer.0, ExitCode::from(7));
     Ok(())
 }
@@ -73,10 +76,10 @@ fn command_lines_without_words(rt: HostRuntime) -> Result<(), Fail> {
     ];
     for (kind, number, text, cut_off) in cases {
         // the source fails at its first call, and the answer shows that there was none
-        let answer = ended(rt.alloc(), Err(io::Error::from(kind)), RACE, &[0], &[])?;
+        let answer = ended(&rt, Err(io::Error::from(kind)), RACE, &[0], &[])?;
         assert_eq!(rt; answer.0, ExitCode::from(number));
         assert_eq!(rt; answer.1.as_slice(), text.as_bytes());
-        let answer = ended(rt.alloc(), Err(io::Error::from(kind)), RACE, &[], &[0])?;
+        let answer = ended(&rt, Err(io::Error::from(kind)), RACE, &[], &[0])?;
         assert_eq!(rt; answer.0, ExitCode::from(cut_off));
         assert_eq!(rt; answer.1.len(), 0);
     }

@@ -8,7 +8,7 @@ fn cut_records(rt: HostRuntime) -> Result<(), Fail> {
     let alloc = rt.alloc();
     let record = RACE_RECORD.as_bytes();
     for k in 0..record.len() {
-        let answer = ask(alloc, &REPLAY, &record[..k])?;
+        let answer = ask(&rt, &REPLAY, &record[..k])?;
         let due = format!(in alloc; "not a run {k}\n")?;
         assert_eq!(rt; answer.status, Status::NotRun { byte: k as u32 });
         assert_eq!(rt; answer.text.as_slice(), due.as_str().as_bytes());
@@ -41,7 +41,7 @@ fn texts_that_are_no_records(rt: HostRuntime) -> Result<(), Fail> {
         ),
     ];
     for (text, due) in cases {
-        let answer = ask(rt.alloc(), &REPLAY, text.as_bytes())?;
+        let answer = ask(&rt, &REPLAY, text.as_bytes())?;
         assert_eq!(rt; answer.text.as_slice(), due.as_bytes(), "{text}");
     }
     Ok(())
@@ -74,7 +74,7 @@ fn records_of_no_programs(rt: HostRuntime) -> Result<(), Fail> {
         ),
     ];
     for (text, status, due) in cases {
-        let answer = ask(rt.alloc(), &REPLAY, text.as_bytes())?;
+        let answer = ask(&rt, &REPLAY, text.as_bytes())?;
         assert_eq!(rt; answer.status, status, "{text}");
         assert_eq!(rt; answer.text.as_slice(), due.as_bytes(), "{text}");
         assert_eq!(rt; answer.entries, 0);

@@ -85,9 +85,9 @@ fn records_of_serial_runs_are_legal(rt: HostRuntime) -> Result<(), Fail> {
         ),
     ];
     for (text, words, status, due) in cases {
-        let run = ask(alloc, words, text.as_bytes())?;
+        let run = ask(&rt, words, text.as_bytes())?;
         assert_eq!(rt; run.status, status, "{text}");
-        let answer = ask(alloc, &REPLAY, run.text.as_slice())?;
+        let answer = ask(&rt, &REPLAY, run.text.as_slice())?;
         assert_eq!(rt; answer.status, status, "{text}");
         assert_eq!(rt; answer.text.as_slice(), due.as_bytes(), "{text}");
         assert_eq!(rt; answer.entries, run.entries, "{text}");
@@ -106,9 +106,9 @@ const SHORT_RECORD: &str =
 #[test]
 fn records_that_are_not_legal(rt: HostRuntime) -> Result<(), Fail> {
     let alloc = rt.alloc();
-    let answer = ask(alloc, &REPLAY, GET_RECORD.as_bytes())?;
+    let answer = ask(&rt, &REPLAY, GET_RECORD.as_bytes())?;
     assert_eq!(rt; answer.status, Status::Clean);
-    let answer = ask(alloc, &REPLAY, SHORT_RECORD.as_bytes())?;
+    let answer = ask(&rt, &REPLAY, SHORT_RECORD.as_bytes())?;
     assert_eq!(rt; answer.status, Status::Clean);
     assert_eq!(rt;
         answer.text.as_slice(),
@@ -136,7 +136,7 @@ fn records_that_are_not_legal(rt: HostRuntime) -> Result<(), Fail> {
     ];
     for (record, part, other, entry) in cases {
         let text = altered(alloc, record, part, other)?;
-        let answer = ask(alloc, &REPLAY, text.as_str().as_bytes())?;
+        let answer = ask(&rt, &REPLAY, text.as_str().as_bytes())?;
         let due = format!(in alloc; "not legal {entry}\n")?;
         assert_eq!(rt; answer.status, Status::NotLegal { entry }, "{other}");
         assert_eq!(rt; answer.text.as_slice(), due.as_str().as_bytes(), "{other}");
@@ -149,7 +149,7 @@ fn records_that_are_not_legal(rt: HostRuntime) -> Result<(), Fail> {
 fn a_sink_that_fails_at_a_replay(rt: HostRuntime) -> Result<(), Fail> {
     for call in 0..2 {
         let record = RACE_RECORD.as_bytes();
-        let answer = call_forder(rt.alloc(), &REPLAY, record, 16, &[], &[call])?;
+        let answer = call_forder(&rt, &REPLAY, record, 16, &[], &[call])?;
         assert_eq!(rt; answer.status, Status::WriteFault);
         assert_eq!(rt; answer.entries, 6);
         assert!(rt;

@@ -4,9 +4,10 @@ use crate::tests::{CHECK, RACE, RACE_RECORD, RUN, SERIAL, SYNC, SYNC_RECORD, ask
 use fut_base::record::Finish;
 use race_report::found_of;
 use run_record::reader::read_run;
-use std::alloc::Global;
 use std::process::Abort;
+use std::sync::Wait;
 use std::test::Fail;
+use std::thread::Threads;
 
 const ONE_RECORD: &str =
     "forder 1\nprogram 29\ntask main() int { return 0; }\nentries 1\n0 t0 s0 end 0\nraces 0\nfinish whole\nend\n";
@@ -44,7 +45,7 @@ fn records_of_runs(rt: HostRuntime) -> Result<(), Fail> {
         ),
     ];
     for (text, status, record) in cases {
-        let answer = ask(rt.alloc(), &RUN, text.as_bytes())?;
+        let answer = ask(&rt, &RUN, text.as_bytes())?;
         assert_eq!(rt; answer.status, status, "{text}");
         assert_eq!(rt; answer.text.as_slice(), record.as_bytes(), "{text}");
     }
@@ -52,17 +53,17 @@ fn records_of_runs(rt: HostRuntime) -> Result<(), Fail> {
 }
 
 /// Asserts that the races of a run of so many entries, at most 15, are after each of them those that a search for paths finds.
-fn assert_races_as_searched(
-    rt: &impl Abort,
-    alloc: Global,
+fn assert_races_as_searched<R: Abort + AllocGlobal + Threads + Wait + Sync>(
+    rt: &R,
     text: &str,
     entries: usize,
 ) -> Result<(), Fail> {
+    let alloc = rt.alloc();
     assert!(rt; entries < 16);
     for events in 1..entries as u32 + 1 {
         let number = format!(in alloc; "{events}")?;
         let words = ["serial", "--events", number.as_str()];
-        let answer = ask(alloc, &words, text.as_bytes())?;
+        let answer = ask(rt, &words, text.as_bytes())?;
         assert!(rt; answer.text.len() < 100_000);
         let run = read_run(alloc, answer.text.as_slice())?;
         assert!(rt; run.history.len() <= 16);
@@ -128,9 +129,9 @@ fn worked_runs(rt: HostRuntime) -> Result<(), Fail> {
         ),
     ];
     for (text, tail) in cases {
-        let answer = ask(rt.alloc(), &SERIAL, text.as_bytes())?;
+        let answer = ask(&rt, &SERIAL, text.as_bytes())?;
         assert!(rt; answer.ends_in(tail), "{text}");
-        assert_races_as_searched(&rt, rt.alloc(), text, answer.entries)?;
+        assert_races_as_searched(&rt, text, answer.entries)?;
     }
     Ok(())
 }
@@ -156,7 +157,7 @@ fn bounded_runs(rt: HostRuntime) -> Result<(), Fail> {
         ),
     ];
     for (words, entries, tail) in cases {
-        let answer = ask(rt.alloc(), words, text.as_bytes())?;
+        let answer = ask(&rt, words, text.as_bytes())?;
         assert!(rt; answer.ends_in(tail));
         assert_eq!(rt; answer.entries, entries);
     }
@@ -182,7 +183,7 @@ fn a_run_that_is_spent(rt: HostRuntime) -> Result<(), Fail> {
     }
     record.push_str("races 0\nfinish events 1000\nend\n")?;
     let words = ["run", "--workers", "1", "--events", "1000"];
-    let answer = ask(alloc, &words, text.as_bytes())?;
+    let answer = ask(&rt, &words, text.as_bytes())?;
     assert_eq!(rt;
         answer.status,
         Status::Spent {
@@ -236,7 +237,7 @@ fn brief_texts(rt: HostRuntime) -> Result<(), Fail> {
         ),
     ];
     for (words, text, status, due) in cases {
-        let answer = ask(rt.alloc(), words, text.as_bytes())?;
+        let answer = ask(&rt, words, text.as_bytes())?;
         assert_eq!(rt; answer.status, status);
         assert_eq!(rt; answer.text.as_slice(), due.as_bytes());
     }
@@ -271,7 +272,7 @@ fn answers_of_check(rt: HostRuntime) -> Result<(), Fail> {
         ("task main() int { return 0; ", "syntax 1:29\n"),
     ];
     for (text, answer) in cases {
-        let given = ask(rt.alloc(), &CHECK, text.as_bytes())?;
+        let given = ask(&rt, &CHECK, text.as_bytes())?;
         assert_eq!(rt; given.text.as_slice(), answer.as_bytes(), "{text}");
         assert_eq!(rt; given.entries, 0);
     }
@@ -300,7 +301,7 @@ fn deep_brackets(rt: HostRuntime) -> Result<(), Fail> {
             text.push_str(")")?;
         }
         text.push_str("; }")?;
-        let answer = ask(alloc, &CHECK, text.as_str().as_bytes())?;
+        let answer = ask(&rt, &CHECK, text.as_str().as_bytes())?;
         assert_eq!(rt; answer.status, status, "{depth}");
     }
     Ok(())

@@ -27,7 +27,7 @@ fn other_words_read_nothing(rt: HostRuntime) -> Result<(), Fail> {
         &["help", "serial"],
         &["run", "--workers"],
         &["run", "--workers", "0"],
-        &["run", "--workers", "2"],
+        &["run", "--workers", "65"],
         &["run", "--workers", "01"],
         &["run", "--workers=1"],
         &["run", "--workers", "1", "1"],
@@ -50,7 +50,7 @@ fn other_words_read_nothing(rt: HostRuntime) -> Result<(), Fail> {
     ];
     for words in cases {
         // the source fails at its first call, and the answer shows that there was none
-        let answer = call_forder(rt.alloc(), words, RACE.as_bytes(), 16, &[0], &[])?;
+        let answer = call_forder(&rt, words, RACE.as_bytes(), 16, &[0], &[])?;
         assert_eq!(rt; answer.status, Status::Usage);
         assert_eq!(rt; answer.text.as_slice(), usage.as_bytes());
         assert_eq!(rt; answer.entries, 0);
@@ -60,9 +60,11 @@ fn other_words_read_nothing(rt: HostRuntime) -> Result<(), Fail> {
 
 #[test]
 fn words_of_the_form_are_taken(rt: HostRuntime) -> Result<(), Fail> {
-    let cases: [&[&str]; 12] = [
+    let cases: [&[&str]; 14] = [
         &["serial"],
         &["run"],
+        &["run", "--workers", "2"],
+        &["run", "--workers", "64"],
         &["run", "--workers", "1"],
         &["run", "--events", "6"],
         &["run", "--events", "1000000", "--workers", "1"],
@@ -75,7 +77,7 @@ fn words_of_the_form_are_taken(rt: HostRuntime) -> Result<(), Fail> {
         &["serial", "--events", "10", "--brief"],
     ];
     for words in cases {
-        let answer = ask(rt.alloc(), words, RACE.as_bytes())?;
+        let answer = ask(&rt, words, RACE.as_bytes())?;
         assert_eq!(rt; answer.status, Status::Raced);
         assert_eq!(rt; answer.entries, 6);
     }
@@ -87,13 +89,13 @@ fn a_source_that_fails(rt: HostRuntime) -> Result<(), Fail> {
     // 110 bytes by 16 a call: seven calls, and one more that answers the end
     for call in 0..8 {
         for words in [RUN.as_slice(), REPLAY.as_slice()] {
-            let answer = call_forder(rt.alloc(), words, RACE.as_bytes(), 16, &[call], &[])?;
+            let answer = call_forder(&rt, words, RACE.as_bytes(), 16, &[call], &[])?;
             assert_eq!(rt; answer.status, Status::ReadFault, "call {call}");
             assert_eq!(rt; answer.text.as_slice(), b"read fault\n".as_slice());
             assert_eq!(rt; answer.entries, 0);
         }
     }
-    let answer = call_forder(rt.alloc(), &RUN, RACE.as_bytes(), 16, &[8], &[])?;
+    let answer = call_forder(&rt, &RUN, RACE.as_bytes(), 16, &[8], &[])?;
     assert_eq!(rt; answer.status, Status::Raced);
     Ok(())
 }
@@ -104,7 +106,7 @@ fn a_sink_that_fails(rt: HostRuntime) -> Result<(), Fail> {
     let calls = RACE_RECORD.len().div_ceil(16);
     let mut wrote = 0;
     for call in 0..calls {
-        let answer = call_forder(rt.alloc(), &RUN, RACE.as_bytes(), 16, &[], &[call as u64])?;
+        let answer = call_forder(&rt, &RUN, RACE.as_bytes(), 16, &[], &[call as u64])?;
         assert_eq!(rt; answer.status, Status::WriteFault, "call {call}");
         assert_eq!(rt; answer.entries, 6);
         assert_eq!(rt; answer.text.len(), wrote);
@@ -114,7 +116,7 @@ fn a_sink_that_fails(rt: HostRuntime) -> Result<(), Fail> {
         );
         wrote = answer.text.len().saturating_add(16);
     }
-    let answer = call_forder(rt.alloc(), &RUN, RACE.as_bytes(), 16, &[], &[calls as u64])?;
+    let answer = call_forder(&rt, &RUN, RACE.as_bytes(), 16, &[], &[calls as u64])?;
     assert_eq!(rt; answer.status, Status::Raced);
     assert_eq!(rt; answer.text.as_slice(), RACE_RECORD.as_bytes());
     Ok(())

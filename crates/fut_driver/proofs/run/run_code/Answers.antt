@@ -5,4 +5,4 @@ use Rattle.fut_driver.proofs.run.run_code.Goals as goal
 pub returns : goal.returns
 returns c = λ P typed of.
     let ran = c.in_ok-ran.ran in
-    ran_as P c.args.events c.args.brief c.args.text.now _ (events_of ran.history) _ c.args.code.now ran.races.items ran.finish ran.cells.items c.ending.ensures (c.in_ok-ran.ensures.run P typed of) c.in_ok-ran.ensures.races c.in_ok-made.ensures of typed c.requires.bounded c.requires.short c.history_has_bounds.ensures c.finish_has_bounds.ensures
+    ran_as P c.args.workers c.args.events c.args.brief c.args.text.now _ (events_of ran.history) _ c.args.code.now ran.races.items ran.finish ran.cells.items c.ending.ensures (c.in_ok-ran.ensures.run P typed of) (c.in_ok-ran.ensures.serial P typed of) c.in_ok-ran.ensures.races c.in_ok-made.ensures of typed c.requires.bounded c.requires.short c.history_has_bounds.ensures c.finish_has_bounds.ensures
