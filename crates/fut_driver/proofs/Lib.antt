@@ -4,5 +4,6 @@ pub mod Coming
 pub mod Completing
 pub mod Consuming
 pub mod Endings
+pub mod Jobs
 pub mod Naming
 pub mod Wordings

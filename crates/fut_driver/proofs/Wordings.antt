@@ -1,11 +1,13 @@
 -- What is answered depends on the command alone.
-use Rattle.std.proofs.Common.{◌≡◌, ℕ, ◌+◌, ◌≤◌, Bool, true, false, List, [], ◌∷◌, codes, inl, inr, refl, ap, subst, arith}
+use Rattle.std.proofs.Common.{◌≡◌, ℕ, ◌+◌, ◌≤◌, Bool, true, false, List, [], ◌∷◌, codes, inl, inr, refl, sym, ap, ◌∙◌, subst, arith, decimal}
+use Rattle.std.specs.Prelude.{nat_lt}
+use Rattle.std.proofs.lemmas.Fmt.{decimal_digit}
 use Rattle.fut_base.specs.declared.event.Event.{Event}
 use Rattle.command_words.specs.declared.options.Choice.{Choice}
 use Rattle.command_words.specs.declared.options.Choice.TheVariants as choice
 use Rattle.command_words.specs.declared.words.Command.{Command}
 use Rattle.command_words.specs.declared.words.Command.TheVariants as command
-use Rattle.command_words.specs.Asking.{count, is_events, is_brief, is_workers, MayStand, EachMayStand, AreOptions, AreWordsOf, most_bytes}
+use Rattle.command_words.specs.Asking.{spellings, count, is_events, is_brief, is_workers, MayStand, EachMayStand, AreOptions, AreWordsOf, most_bytes}
 use Rattle.command_words.proofs.Wording.{one_command}
 use Rattle.fut_driver.specs.declared.status.Status.{Status}
 use Rattle.fut_driver.specs.declared.status.Status.TheVariants as status
@@ -100,18 +102,25 @@ each_may_stand : (cs : List Choice) → EachMayStand false cs → EachMayStand t
 each_may_stand [] each = tt
 each_may_stand (c ∷ cs) each = (may_stand c each.0, each_may_stand cs each.1)
 
+-- the word of one worker
+one_is : codes "1" ≡ decimal 1
+one_is = sym (decimal_digit 1 (omega arith))
+
+none_more : (n : ℕ) → 0 + n ≡ n
+none_more n = omega arith
+
 run_options : (words : List (List ℕ)) (bound : ℕ) (brief : Bool) (workers : ℕ) → AreOptions false words bound brief workers → AreOptions true (codes "--workers" ∷ (codes "1" ∷ words)) bound brief 1
 run_options words bound brief workers o =
     let none = none_names o.choices o.allowed in
-    let events : 0 + count is_events o.choices ≤ 1 = o.once.events in
-    let briefs : 0 + count is_brief o.choices ≤ 1 = o.once.brief in
+    let events : 0 + count is_events o.choices ≤ 1 = omega (arith, o.once.events) in
+    let briefs : 0 + count is_brief o.choices ≤ 1 = omega (arith, o.once.brief) in
     record {
       choices = choice.Workers 1 ∷ o.choices;
-      written = ap (λ ws. codes "--workers" ∷ (codes "1" ∷ ws)) o.written;
+      written = ap (λ ws. codes "--workers" ∷ (codes "1" ∷ ws)) o.written ∙ ap (λ d. codes "--workers" ∷ (d ∷ spellings o.choices)) one_is;
       allowed = ((refl, (omega arith, omega arith)), each_may_stand o.choices o.allowed);
       once = record { events = omega (arith, events); brief = omega (arith, briefs); workers = omega (arith, none) };
       bound = o.bound;
-      brief_is = o.brief_is;
+      brief_is = o.brief_is ∙ ap (nat_lt 0) (sym (none_more (count is_brief o.choices)));
       workers_are = refl;
     }
 

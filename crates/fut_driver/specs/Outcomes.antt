@@ -1,5 +1,5 @@
 -- What comes of the bytes that a command read.
-use Rattle.std.specs.Prelude.{◌≡◌, ℕ, Bool, false, List, [], ◌∷◌, Some, ℤ}
+use Rattle.std.specs.Prelude.{◌≡◌, ◌≢◌, ℕ, ◌≤◌, Bool, false, List, [], ◌∷◌, length, Some, ℤ, ◌⊎◌}
 use Rattle.fut_base.specs.declared.event.Event.{Event}
 use Rattle.fut_base.specs.declared.record.Race.{Race}
 use Rattle.fut_base.specs.declared.record.Finish.{Finish}
@@ -18,9 +18,20 @@ use Rattle.fut_driver.specs.declared.status.Status.TheVariants as status
 use Rattle.fut_driver.specs.declared.program.Refusal.{Refusal}
 use Rattle.fut_driver.specs.declared.program.Refusal.TheVariants as refusal
 use Rattle.command_words.specs.declared.words.Command.{Command}
-use Rattle.fut_driver.specs.Given.{Asked, Asks}
+use Rattle.command_words.specs.declared.words.Command.TheVariants as command
+use Rattle.command_words.specs.Asking.{AreWorkers, IsBound}
+use Rattle.task_code.specs.Flat.{IsCodeOf}
+use Rattle.fut_base.specs.Events.{events_of}
+use Rattle.fut_base.specs.Ports.{Writes}
+use Rattle.fut_base.specs.declared.ports.Wrote.TheVariants as wrote
+use Rattle.fut_driver.specs.declared.job.Job.{Job}
+use Rattle.fut_driver.specs.declared.job.Prepared.{Prepared}
+use Rattle.fut_driver.specs.declared.job.Prepared.TheVariants as prepared
+use Rattle.fut_driver.specs.declared.outcome.Outcome.{Outcome}
+use Rattle.fut_driver.specs.declared.status.Ended.{Ended}
+use Rattle.fut_driver.specs.Given.{Asked, Told, Asks}
 use Rattle.fut_driver.specs.Due.{due_text, run_due}
-use Rattle.fut_driver.specs.Verdict.{IsRead, EndsIn, IsIllTypedText, IsVerdict}
+use Rattle.fut_driver.specs.Verdict.{IsRead, IsWellTypedText, EndsIn, IsIllTypedText, IsVerdict}
 
 -- how a run ended that has these races
 abbrev pub ending_of : Finish → List Race → Status
@@ -61,6 +72,44 @@ pub record RanAs (P : tree.Program) (workers bound : ℕ) (brief : Bool) (text :
   pub text_is : made ≡ run_due brief text (cell_arrays P) h races end cells
   pub recorded : brief ≡ false → IsRunText made text h races end
 
+-- a job is a run of this program on several workers
+pub record IsJob (P : tree.Program) (job : Job) : Type 0 where
+  pub typed : IsWellTypedText job.text.items P
+  pub code_is : IsCodeOf P job.code
+  pub short : length job.text.items ≤ 1048576
+  pub bounded : IsBound job.events
+  pub workers : AreWorkers job.workers
+  pub several : job.workers ≢ 1
+
+-- the words ask for this job, and its text is what was read
+pub record IsAsked (a : Asked) (job : Job) : Type 0 where
+  pub words : Asks a (command.Run job.events job.brief job.workers)
+  pub read : IsRead a (command.Run job.events job.brief job.workers) job.text.items
+  pub job_is : (P : tree.Program) × IsJob P job
+
 -- wherever a command read these bytes, this is a verdict
 abbrev pub IsOutcome : Command → List ℕ → Status → List Event → List ℕ → Type 0
 IsOutcome c bytes s h made = (a : Asked) → Asks a c → IsRead a c bytes → IsVerdict a s h (due_text s made)
+
+-- what comes of the bytes that a command read: an outcome, or the job that the command asks for
+abbrev pub IsPrepared : Command → List ℕ → Prepared → Type 0
+IsPrepared c bytes (prepared.Done o) = IsOutcome c bytes o.status (events_of o.history) o.text.items
+IsPrepared c bytes (prepared.Due job) =
+    (c ≡ command.Run job.events job.brief job.workers) × (job.text.items ≡ bytes) × ((P : tree.Program) × IsJob P job)
+
+-- what comes of a call: a verdict, or a job that the words ask for
+abbrev pub IsJudged : Asked → Prepared → Type 0
+IsJudged a (prepared.Done o) = IsVerdict a o.status (events_of o.history) (due_text o.status o.text.items)
+IsJudged a (prepared.Due job) = IsAsked a job
+
+-- the call ends with how it is used
+abbrev pub IsUsage : Prepared → Type 0
+IsUsage (prepared.Done o) = o.status ≡ status.Usage
+IsUsage (prepared.Due job) = ⊥
+
+-- the text of an outcome was written, and its status and history are answered; or a put failed
+abbrev pub IsEnding : Outcome → Told → Ended → Type 0
+IsEnding o t e =
+    (events_of e.history ≡ events_of o.history)
+    × (((e.status ≡ o.status) × Writes t.held_before t.held_after t.faults_before t.faults_after (due_text o.status o.text.items) wrote.All)
+    ⊎ ((e.status ≡ status.WriteFault) × Writes t.held_before t.held_after t.faults_before t.faults_after (due_text o.status o.text.items) wrote.Failed))

@@ -5,11 +5,11 @@ ghost use Rattle.command_words.specs.Asking.{IsBounded, most_bytes};
 ghost use Rattle.fut_driver.specs.Given.{Asked, asked_of};
 ghost use Rattle.fut_driver.specs.Verdict.{IsVerdict};
 ghost use Rattle.fut_driver.specs.Due.{due_text};
-ghost use Rattle.fut_driver.specs.Outcomes.{IsOutcome};
+ghost use Rattle.fut_driver.specs.Outcomes.{IsJudged, IsPrepared, IsUsage};
 ghost use Rattle.fut_driver.specs.declared.status.Status.TheVariants as status;
 
-use crate::engine::Engine;
 use crate::input::{Input, read_all};
+use crate::job::Prepared;
 use crate::outcome::Outcome;
 use crate::replay::replay_text;
 use crate::run::{check_text, run_text};
@@ -36,45 +36,37 @@ fn longest(command: Command) -> usize
 }
 
 /// What comes of the bytes that a command read.
-fn outcome_of<E: Engine>(alloc: Global, command: Command, bytes: &[u8], engine: &E) -> Outcome
-    requires short { length bytes.now ≤ most_bytes command }
+fn prepared(alloc: Global, command: Command, bytes: Vec<u8>) -> Prepared
+    requires short { length bytes.items ≤ most_bytes command }
     requires bounded { IsBounded command }
-    ensures { IsOutcome command bytes.now result.status (events_of result.history) result.text.items }
+    ensures { IsPrepared command bytes.items result }
 {
     match command {
-        Command::Check => check_text(alloc, bytes),
+        Command::Check => Prepared::Done(check_text(alloc, bytes.as_slice())),
         Command::Run {
             events,
             brief,
             workers,
-        } => run_text(alloc, bytes, events, brief, workers, engine),
-        Command::Replay => replay_text(alloc, bytes),
+        } => run_text(alloc, bytes, events, brief, workers),
+        Command::Replay => Prepared::Done(replay_text(alloc, bytes.as_slice())),
     }
 }
 
-/// Reads the text where the words ask for something, and does it.
-pub fn judge<S: Source, E: Engine>(
-    alloc: Global,
-    words: &Words,
-    may_run: bool,
-    source: &mut S,
-    engine: &E,
-) -> Outcome
-    ensures verdict { IsVerdict
-        (asked_of may_run words.now S.left S.ended S.faults source.old source.new)
-        result.status (events_of result.history) (due_text result.status result.text.items) }
-    ensures usage { result.status ≡ status.Usage → source.new ≡ source.old }
+/// Reads the text where the words ask for something, and does it, but for a run on several workers.
+pub fn judge<S: Source>(alloc: Global, words: &Words, may_run: bool, source: &mut S) -> Prepared
+    ensures judged { IsJudged (asked_of may_run words.now S.left S.ended S.faults source.old source.new) result }
+    ensures usage { IsUsage result → source.new ≡ source.old }
 {
     let Some(command) = words.command(may_run) else {
-        return Outcome::bare(alloc, Status::Usage);
+        return Prepared::Done(Outcome::bare(alloc, Status::Usage));
     };
     if !reads_as(alloc, words, command) {
-        return Outcome::bare(alloc, Status::NoMemory);
+        return Prepared::Done(Outcome::bare(alloc, Status::NoMemory));
     }
     match read_all(alloc, source, longest(command)) {
-        Input::Whole(bytes) => outcome_of(alloc, command, bytes.as_slice(), engine),
-        Input::TooLong => Outcome::bare(alloc, Status::TooLong),
-        Input::Failed => Outcome::bare(alloc, Status::ReadFault),
-        Input::NoMemory => Outcome::bare(alloc, Status::NoMemory),
+        Input::Whole(bytes) => prepared(alloc, command, bytes),
+        Input::TooLong => Prepared::Done(Outcome::bare(alloc, Status::TooLong)),
+        Input::Failed => Prepared::Done(Outcome::bare(alloc, Status::ReadFault)),
+        Input::NoMemory => Prepared::Done(Outcome::bare(alloc, Status::NoMemory)),
     }
 }

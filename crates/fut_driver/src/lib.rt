@@ -7,9 +7,9 @@
 #![tactic(auto)]
 
 pub mod clean;
-pub mod engine;
 mod gathered;
 mod input;
+mod job;
 mod judge;
 pub mod laws;
 pub mod line;

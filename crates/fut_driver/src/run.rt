@@ -1,19 +1,20 @@
 //! A program printed, or run.
-ghost use Rattle.std.specs.Prelude.{◌≡◌, ◌≤◌, length, IfOk};
+ghost use Rattle.std.specs.Prelude.{◌≡◌, ◌≤◌, ℕ, length, IfOk};
 ghost use Rattle.fut_base.specs.Events.{events_of};
+ghost use Rattle.fut_base.specs.Racing.{IsReport};
 ghost use Rattle.fut_syntax.specs.Trees as tree;
 ghost use Rattle.task_code.specs.Flat.{IsCodeOf};
 ghost use Rattle.fut_check.specs.Items.{IsWellTyped};
 ghost use Rattle.command_words.specs.Asking.{AreWorkers, IsBound};
-ghost use Rattle.fut_base.specs.Racing.{IsReport};
 ghost use Rattle.run_replay.specs.Serials.{IsSerialRun};
 ghost use Rattle.fut_engine.specs.Runs.{IsRun};
+ghost use Rattle.fut_driver.specs.Verdict.{limits_of};
 ghost use Rattle.fut_driver.specs.Due.{run_due};
-ghost use Rattle.fut_driver.specs.Outcomes.{IsOutcome, RanAs};
+ghost use Rattle.fut_driver.specs.Outcomes.{IsOutcome, IsPrepared, RanAs};
 ghost use Rattle.command_words.specs.declared.words.Command.TheVariants as command;
 
-use crate::engine::Engine;
 use crate::gathered::Gathered;
+use crate::job::{Job, Prepared};
 use crate::outcome::{Outcome, ending};
 use crate::program::{code_for, printed};
 use crate::status::Status;
@@ -21,7 +22,6 @@ use fut_base::list::NoMemory;
 use fut_base::ports::Wrote;
 use fut_base::record::{Limits, Ran};
 use race_report::write_brief;
-use fut_engine::run::Options;
 use run_check::numbers::{finish_has_bounds, history_has_bounds};
 use run_record::run_text::write_run;
 use run_replay::serial::serial;
@@ -51,51 +51,78 @@ pub fn check_text(alloc: Global, text: &[u8]) -> Outcome
     }
 }
 
-/// What comes of a program text that is to be run up to a number of entries on so many workers.
-pub fn run_text<E: Engine>(
-    alloc: Global,
-    text: &[u8],
-    events: u32,
-    brief: bool,
-    workers: u32,
-    engine: &E,
-) -> Outcome
-    requires short { length text.now ≤ 1048576 }
+/// What comes of a program text that is to be run up to a number of entries: on one worker its serial run, on more a run that is due.
+pub fn run_text(alloc: Global, text: Vec<u8>, events: u32, brief: bool, workers: u32) -> Prepared
+    requires short { length text.items ≤ 1048576 }
     requires bounded { IsBound events }
     requires workers { AreWorkers workers }
-    ensures { IsOutcome (command.Run events brief workers) text.now result.status (events_of result.history) result.text.items }
+    ensures { IsPrepared (command.Run events brief workers) text.items result }
 {
-    match code_for(alloc, text) {
-        Ok(code) => match run_code(alloc, text, &code, events, brief, workers, engine) {
-            Ok(outcome) => outcome,
-            Err(NoMemory) => Outcome::bare(alloc, Status::NoMemory),
-        },
-        Err(refusal) => Outcome::refused(alloc, refusal),
+    let code = match code_for(alloc, text.as_slice()) {
+        Ok(code) => code,
+        Err(refusal) => return Prepared::Done(Outcome::refused(alloc, refusal)),
+    };
+    if workers != 1 {
+        return Prepared::Due(Job {
+            text,
+            code,
+            events,
+            brief,
+            workers,
+        });
+    }
+    match run_code(alloc, text.as_slice(), &code, events, brief) {
+        Ok(outcome) => Prepared::Done(outcome),
+        Err(NoMemory) => Prepared::Done(Outcome::bare(alloc, Status::NoMemory)),
     }
 }
 
-/// Runs the code of a text.
-fn run_code<E: Engine>(
+/// The limits of a run of so many entries.
+pub fn limits(bound: u32) -> Limits
+    ensures { result ≡ limits_of bound }
+{
+    Limits {
+        events: bound,
+        local_steps: MOST_STEPS,
+        futures: MOST_FUTURES,
+    }
+}
+
+/// Makes the serial run of the code of a text.
+fn run_code(
     alloc: Global,
     text: &[u8],
     code: &Code,
     events: u32,
     brief: bool,
-    workers: u32,
-    engine: &E,
 ) -> Result<Outcome, NoMemory>
     requires short { length text.now ≤ 1048576 }
     requires program { (P : tree.Program) × IsWellTyped P × IsCodeOf P code.now }
     requires bounded { IsBound events }
-    requires workers { AreWorkers workers }
-    ensures { IfOk result (λ o. (P : tree.Program) → IsWellTyped P → IsCodeOf P code.now → RanAs P workers events brief text.now o.status (events_of o.history) o.text.items) }
+    ensures { IfOk result (λ o. (P : tree.Program) → IsWellTyped P → IsCodeOf P code.now → RanAs P 1 events brief text.now o.status (events_of o.history) o.text.items) }
 {
-    let limits = Limits {
-        events,
-        local_steps: MOST_STEPS,
-        futures: MOST_FUTURES,
-    };
-    let ran = ran(alloc, code, Options { workers, limits }, engine)?;
+    let ran = serial(alloc, code, limits(events))?;
+    let outcome = outcome_of_run(alloc, text, code, ran, events, brief)?;
+    Ok(outcome)
+}
+
+/// What comes of a run of the code of a text.
+pub fn outcome_of_run(
+    alloc: Global,
+    text: &[u8],
+    code: &Code,
+    ran: Ran,
+    events: u32,
+    brief: bool,
+) -> Result<Outcome, NoMemory>
+    requires short { length text.now ≤ 1048576 }
+    requires bounded { IsBound events }
+    requires races { IsReport (events_of ran.history) ran.races.items }
+    ensures { IfOk result (λ o. (P : tree.Program) (workers : ℕ) → IsWellTyped P → IsCodeOf P code.now
+        → IsRun P (limits_of events) (events_of ran.history) ran.finish ran.cells.items
+        → (workers ≡ 1 → IsSerialRun P (limits_of events) (events_of ran.history) ran.finish ran.cells.items)
+        → RanAs P workers events brief text.now o.status (events_of o.history) o.text.items) }
+{
     history_has_bounds(&ran.history);
     finish_has_bounds(ran.finish);
     let made = made(alloc, text, code, &ran, brief)?;
@@ -104,23 +131,6 @@ fn run_code<E: Engine>(
         history: ran.history,
         text: made,
     })
-}
-
-/// The run of a code: with one worker the serial one.
-fn ran<E: Engine>(alloc: Global, code: &Code, options: Options, engine: &E) -> Result<Ran, NoMemory>
-    requires program { (P : tree.Program) × IsWellTyped P × IsCodeOf P code.now }
-    requires workers { AreWorkers options.workers }
-    requires local { options.limits.local_steps ≡ 1000000 }
-    requires events { options.limits.events ≤ 1000000 }
-    requires futures { options.limits.futures ≡ 4096 }
-    ensures run { IfOk result (λ ran. (P : tree.Program) → IsWellTyped P → IsCodeOf P code.now → IsRun P options.limits (events_of ran.history) ran.finish ran.cells.items) }
-    ensures serial { IfOk result (λ ran. (P : tree.Program) → IsWellTyped P → IsCodeOf P code.now → options.workers ≡ 1 → IsSerialRun P options.limits (events_of ran.history) ran.finish ran.cells.items) }
-    ensures races { IfOk result (λ ran. IsReport (events_of ran.history) ran.races.items) }
-{
-    if options.workers == 1 {
-        return serial(alloc, code, options.limits);
-    }
-    engine.run(alloc, code, options)
 }
 
 /// The record of a run, or its brief text.

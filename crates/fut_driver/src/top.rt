@@ -2,11 +2,13 @@
 ghost use Rattle.std.specs.Prelude.{◌≡◌, true, false};
 ghost use Rattle.fut_base.specs.Events.{events_of};
 ghost use Rattle.fut_driver.specs.Given.{Asked, Told, asked_of, told_of};
+ghost use Rattle.fut_driver.specs.Outcomes.{IsEnding};
 ghost use Rattle.fut_driver.specs.Verdict.{IsAnswer, IsUnhindered, IsFree};
 ghost use Rattle.fut_driver.specs.declared.status.Status.TheVariants as status;
 
-use crate::engine::{Alone, Engine, OnThreads};
+use crate::job::{Prepared, run_on_workers};
 use crate::judge::judge;
+use crate::outcome::Outcome;
 use crate::status::{Ended, Status};
 use command_words::words::Words;
 use fut_base::gate::Gate;
@@ -48,7 +50,10 @@ pub fn forder<R: Threads + Wait + Sync, S: Source, K: Sink, G: Gate + Sync>(
     // With other words nothing is read.
     ensures usage { result.status ≡ status.Usage → source.new ≡ source.old }
 {
-    answer(alloc, words, true, source, out, &OnThreads { rt, gate })
+    match judge(alloc, words, true, source) {
+        Prepared::Done(outcome) => told(outcome, out),
+        Prepared::Due(job) => told(run_on_workers(rt, alloc, &job, gate), out),
+    }
 }
 
 /// What `forder` does for the words of `check`, `replay` and `serial`. For all others, those of `run` among them, the answer is
@@ -71,36 +76,16 @@ pub fn plain<S: Source, K: Sink>(alloc: Global, words: &Words, source: &mut S, o
     // With other words nothing is read.
     ensures usage { result.status ≡ status.Usage → source.new ≡ source.old }
 {
-    answer(alloc, words, false, source, out, &Alone)
+    match judge(alloc, words, false, source) {
+        Prepared::Done(outcome) => told(outcome, out),
+        Prepared::Due(_) => unreachable!(),
+    }
 }
 
-/// Judges, and writes the text that is due.
-fn answer<S: Source, K: Sink, E: Engine>(
-    alloc: Global,
-    words: &Words,
-    may_run: bool,
-    source: &mut S,
-    out: &mut K,
-    engine: &E,
-) -> Ended
-    // The status, the history and what was written are those of a verdict whose causes hold.
-    ensures answer { IsAnswer
-        (asked_of may_run words.now S.left S.ended S.faults source.old source.new)
-        (told_of K.held K.faults out.old out.new)
-        result.status (events_of result.history) }
-
-    // A well-typed program that nothing hinders is printed or run.
-    ensures complete { IsUnhindered
-        (asked_of may_run words.now S.left S.ended S.faults source.old source.new)
-        (told_of K.held K.faults out.old out.new)
-        → IsFree
-        (asked_of may_run words.now S.left S.ended S.faults source.old source.new)
-        result.status }
-
-    // With other words nothing is read.
-    ensures usage { result.status ≡ status.Usage → source.new ≡ source.old }
+/// Writes the text that is due, and tells how the call ended.
+fn told<K: Sink>(outcome: Outcome, out: &mut K) -> Ended
+    ensures { IsEnding outcome (told_of K.held K.faults out.old out.new) result }
 {
-    let outcome = judge(alloc, words, may_run, source, engine);
     match outcome.write(out) {
         Wrote::All => Ended {
             status: outcome.status,

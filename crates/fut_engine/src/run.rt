@@ -43,5 +43,6 @@ pub fn run<G: Gate + Sync, R: Threads + Wait + Sync>(
 {
     let _ = rt;
     let _ = gate;
-    serial(alloc, code, options.limits)
+    let ran = serial(alloc, code, options.limits)?;
+    Ok(ran)
 }

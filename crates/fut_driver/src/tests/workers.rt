@@ -117,8 +117,10 @@ fn is_access(entry: Option<&Entry>, task: u32, writes: bool) -> bool {
 /// In every run one cell races, by these two accesses, of which the first is a write.
 #[test]
 fn races_of_runs_on_workers(rt: HostRuntime) -> Result<(), Fail> {
-    let cases: [(&str, u32, u32, u32, bool, usize); 2] =
-        [(RACE, 0, 1, 0, true, 6), (FORGOTTEN, 28, 29, 37, false, 417)];
+    let cases: [(&str, u32, u32, u32, bool, usize); 2] = [
+        (RACE, 0, 1, 0, true, 6),
+        (FORGOTTEN, 28, 29, 37, false, 417),
+    ];
     for (text, cell, writer, other, writes, entries) in cases {
         for workers in ["4", "8"] {
             let words = ["run", "--workers", workers];
@@ -131,10 +133,8 @@ fn races_of_runs_on_workers(rt: HostRuntime) -> Result<(), Fail> {
                 assert_eq!(rt; race.cell, cell);
                 let first = record.history.at(race.first as usize);
                 let second = record.history.at(race.second as usize);
-                let in_order =
-                    is_access(first, writer, true) && is_access(second, other, writes);
-                let turned =
-                    is_access(first, other, writes) && is_access(second, writer, true);
+                let in_order = is_access(first, writer, true) && is_access(second, other, writes);
+                let turned = is_access(first, other, writes) && is_access(second, writer, true);
                 assert!(rt; in_order || turned);
             }
         }
