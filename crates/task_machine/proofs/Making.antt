@@ -8,7 +8,7 @@ use Rattle.fut_base.specs.declared.event.Action.{Action}
 use Rattle.fut_base.specs.declared.event.Action.TheVariants.{Reads, Writes, Spawns, Creates, Syncs, Gets, Ends}
 use Rattle.fut_base.specs.Dag.{Among}
 use Rattle.fut_base.specs.Sound.{strands_by, tasks_by}
-use Rattle.fut_base.proofs.Rising.{among_split}
+use Rattle.fut_base.proofs.Members.{among_split}
 use Rattle.fut_syntax.specs.Trees as tree
 use Rattle.task_machine.specs.Texts.{main_of}
 use Rattle.task_machine.specs.State.{TaskState}

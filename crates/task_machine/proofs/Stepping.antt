@@ -1,6 +1,7 @@
 -- A task stands at one event, and a step leads to one machine.
 use Rattle.std.proofs.Common.{◌≡◌, ℕ, zero, suc, ◌<◌, refl, sym, ◌∙◌, subst, arith, lit<}
 use Rattle.std.specs.Prelude.{Some, None}
+use Rattle.fut_base.specs.declared.limits.TheConstants.{MOST_LOCAL_STEPS}
 use Rattle.fut_base.specs.declared.event.Event.{Event}
 use Rattle.fut_syntax.specs.Trees as tree
 use Rattle.task_machine.specs.State.{TaskState, local_step}
@@ -45,4 +46,4 @@ step_is_one P m e a b x y =
 
 -- a task whose first statement is no local one stands at its event
 pub stands_here : (s : TaskState) → local_step s ≡ None → StandsAt s s
-stands_here s stop = (1000000, refl, (0, lit< tt, refl, stop))
+stands_here s stop = (MOST_LOCAL_STEPS, refl, (0, lit< tt, refl, stop))

@@ -1,5 +1,6 @@
 use Rattle.std.proofs.Common.{◌≡◌, ℕ, [], refl, lit<}
 use Rattle.std.specs.Prelude.{pos, Some, None, slice_get, unwrap_or}
+use Rattle.fut_base.specs.declared.limits.TheConstants.{MOST_LOCAL_STEPS}
 use Rattle.fut_base.specs.declared.record.Value.TheVariants.{Int}
 use Rattle.fut_base.specs.declared.event.Event.{Event}
 use Rattle.fut_base.specs.declared.event.Action.TheVariants.{Writes, Spawns, Syncs, Ends}
@@ -26,7 +27,7 @@ step m e present running strand stands answers permits =
       present = present;
       running = running;
       strand = strand;
-      stands = (1000000, refl, (0, lit< tt, refl, stands));
+      stands = (MOST_LOCAL_STEPS, refl, (0, lit< tt, refl, stands));
       answers = answers;
       permits = permits;
       gives = refl;
