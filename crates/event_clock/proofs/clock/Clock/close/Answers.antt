@@ -1,5 +1,6 @@
 use Rattle.std.proofs.Common.{◌≡◌, [], ◌∷◌, ◌++◌, ◌∙◌, ℕ, List, length, sym, ap, subst, inl, refl}
 use Rattle.std.specs.Prelude.{slice_index}
+use Rattle.fut_base.proofs.Members.{among_left, among_right}
 use Rattle.fut_base.specs.Dag.{Among}
 use Rattle.fut_base.specs.Listed.{Listed}
 use Rattle.event_clock.specs.declared.view.View.{View}
@@ -7,7 +8,6 @@ use Rattle.event_clock.specs.declared.view.Size.{Size}
 use Rattle.event_clock.specs.Views.{numbers_of, number_of}
 use Rattle.event_clock.specs.Seated.{Seated, Ticking, HolderList}
 use Rattle.event_clock.specs.Closing.{Gathers, IsClosed}
-use Rattle.event_clock.proofs.Lists.{among_first, among_last}
 use Rattle.event_clock.proofs.Closings.{closes_all, word_read}
 use Rattle.event_clock.proofs.clock.Clock.close.Goals as goal
 
@@ -18,8 +18,8 @@ gather_holders-requires c =
     let items : others ++ first ∷ [] ≡ c.args.holders.items = sym c.in-Some.ensures.items ∙ ap (λ (h : HolderList). h.items) c.holders.view_is in
     record {
       clock = (
-        ap (λ (h : Seated). h.clock) c.first.view_is ∙ c.requires.clock.0 first (subst (λ l. Among first l) items (among_last first others (first ∷ []) (inl refl))),
-        λ u a. c.requires.clock.0 u (subst (λ l. Among u l) items (among_first u others (first ∷ []) a)),
+        ap (λ (h : Seated). h.clock) c.first.view_is ∙ c.requires.clock.0 first (subst (λ l. Among first l) items (among_right first others (first ∷ []) (inl refl))),
+        λ u a. c.requires.clock.0 u (subst (λ l. Among u l) items (among_left u others (first ∷ []) a)),
       );
     }
 
@@ -31,7 +31,7 @@ gather_passes-requires c =
     let passes = ap (λ (p : Listed Seated). p.items) c.passes.view_is in
     record {
       clock = (
-        c.gather_holders.ensures.clock ∙ ap (λ (h : Seated). h.clock) c.first.view_is ∙ c.requires.clock.0 first (subst (λ l. Among first l) items (among_last first others (first ∷ []) (inl refl))),
+        c.gather_holders.ensures.clock ∙ ap (λ (h : Seated). h.clock) c.first.view_is ∙ c.requires.clock.0 first (subst (λ l. Among first l) items (among_right first others (first ∷ []) (inl refl))),
         λ u a. c.requires.clock.1 u (subst (λ l. Among u l) passes a),
       );
     }
@@ -41,7 +41,7 @@ close_with-closed-requires c =
     let first = c.in-Some.first in
     let others = c.pop.new.self.items in
     let items : others ++ first ∷ [] ≡ c.args.holders.items = sym c.in-Some.ensures.items ∙ ap (λ (h : HolderList). h.items) c.holders.view_is in
-    c.gather_passes.ensures.clock ∙ c.gather_holders.ensures.clock ∙ ap (λ (h : Seated). h.clock) c.first.view_is ∙ c.requires.clock.0 first (subst (λ l. Among first l) items (among_last first others (first ∷ []) (inl refl))) ∙ sym (ap (λ (k : Ticking). k.id) c.self.view_is)
+    c.gather_passes.ensures.clock ∙ c.gather_holders.ensures.clock ∙ ap (λ (h : Seated). h.clock) c.first.view_is ∙ c.requires.clock.0 first (subst (λ l. Among first l) items (among_right first others (first ∷ []) (inl refl))) ∙ sym (ap (λ (k : Ticking). k.id) c.self.view_is)
 
 pub returns : goal.returns
 returns c =
