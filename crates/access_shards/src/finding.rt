@@ -67,7 +67,8 @@ pub fn last_unreached<J: Judge>(
     requires at_known { at.number < J.known judge.old }
     requires table_known { AllKnown (J.known judge.old) reach.now }
     requires kept_known { AllOnKnown (J.known judge.old) (all_kept writer readers.now) }
-    ensures finds { IfOk result (λ found. FindsLast reach.now at (J.known judge.old) (J.english judge.old) (J.hebrew judge.old) (all_kept writer readers.now) found) }
+    ensures finds { IfOk result (λ found. FindsLast reach.now at (J.known judge.old) (J.english judge.old) (J.hebrew judge.old)
+        (all_kept writer readers.now) found) }
     ensures moved { IfErr result (λ moved. HasMovedLast moved (J.may_move judge.old) (J.loaded judge.old) (J.loaded judge.new)) }
     ensures asks { AsksAtMost reach.now (length readers.now + 1) (J.asked judge.old) (J.asked judge.new) }
     ensures judge { IsAsBefore J.Judge judge.old judge.new }

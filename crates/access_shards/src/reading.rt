@@ -88,7 +88,8 @@ fn replace_end<J: Judge>(
     requires kept_known { AllOnKnown (J.known judge.old) readers.old.items }
     requires room { vec_len readers.old < vec_capacity readers.old }
     requires last { EndsBefore (J.english judge.old) new.strand readers.old.items }
-    ensures keeps { OnOk result (KeepsRead reach.now new (J.known judge.old) (J.english judge.old) (J.hebrew judge.old) true readers.old.items true readers.new.items) }
+    ensures keeps { OnOk result (KeepsRead reach.now new (J.known judge.old) (J.english judge.old) (J.hebrew judge.old)
+        true readers.old.items true readers.new.items) }
     ensures those { (a : Access) → Among a readers.new.items → Among a readers.old.items ⊎ (new ≡ a) }
     ensures unchanged { OnErr result (readers.new ≡ readers.old) }
     ensures moved { IfErr result (λ moved. HasMovedLast moved (J.may_move judge.old) (J.loaded judge.old) (J.loaded judge.new)) }
@@ -149,7 +150,8 @@ pub fn keep_read<J: Judge>(
     requires kept_known { AllOnKnown (J.known judge.old) readers.old.items }
     requires empty { room.old.items ≡ [] }
     requires room { vec_len readers.old < vec_capacity room.old }
-    ensures keeps { IfOk result (λ rises. KeepsRead reach.now new (J.known judge.old) (J.english judge.old) (J.hebrew judge.old) rise readers.old.items rises readers.new.items) }
+    ensures keeps { IfOk result (λ rises. KeepsRead reach.now new (J.known judge.old) (J.english judge.old) (J.hebrew judge.old)
+        rise readers.old.items rises readers.new.items) }
     ensures rises { IfOk result (λ rises. rise ≡ true → EndsBefore (J.english judge.old) new.strand readers.old.items → rises ≡ true) }
     ensures those { (a : Access) → Among a readers.new.items → Among a readers.old.items ⊎ (new ≡ a) }
     ensures emptied { room.new.items ≡ [] }

@@ -1,5 +1,7 @@
 -- Holders that may draw: after a pass was made and told again, after a spawn, and as a clock is made.
 use Rattle.std.proofs.lemmas.List.{same_from_push}
+use Rattle.std.proofs.lemmas.Bool.{cases_Bool, eqb-true, ne_eqb, eq-eqb, both_ways}
+use Rattle.fut_base.proofs.Members.{among_left, among_last}
 use Rattle.std.proofs.Common.{◌≡◌, ◌≢◌, ℕ, zero, suc, ◌+◌, ◌<◌, ◌≤◌, ◌==◌, Bool, true, false, ◌||◌, if◌then◌else◌, List, [], ◌∷◌, ◌++◌, inl, inr, ap, sym}
 use Rattle.std.proofs.Common.{subst, refl, arith, ◌∙◌, map}
 use Rattle.atomic_table.specs.Seated.{TableId}
@@ -15,8 +17,7 @@ use Rattle.event_clock.specs.Seated.{Seated, Ticking, IsDraw, fresh}
 use Rattle.event_clock.specs.declared.clock.Drawn.{Drawn}
 use Rattle.event_clock.proofs.Carrying.{still_carried}
 use Rattle.event_clock.specs.Closing.{AreOf}
-use Rattle.event_clock.proofs.Lists.{tested, same_number, differs, itself, true_false, carries_append, carries_cut, carries_child, carries_entry, among_first}
-use Rattle.event_clock.proofs.Lists.{among_last}
+use Rattle.event_clock.proofs.Lists.{carries_append, carries_cut, carries_child, carries_entry}
 use Rattle.bench_parts.specs.Drawing.{CanDraw, CanSpawn}
 
 -- of tasks from which one was taken and then added as often as they carried it
@@ -26,13 +27,13 @@ told_again t cs = carries_append t (without_task t cs) (only_task t cs) ∙ carr
 -- a task alone is carried as before, and no other is
 pub only_same : (t : ℕ) (cs : List Carried) → carries t (only_task t cs) ≡ carries t cs
 only_same t [] = refl
-only_same t (c ∷ cs) = elim (tested (c.task == t)) [ inl e ↦ rw e (rw e (omega (arith, only_same t cs))) | inr f ↦ rw f (omega (arith, only_same t cs)) ]
+only_same t (c ∷ cs) = elim (cases_Bool (c.task == t)) [ inl e ↦ rw e (rw e (omega (arith, only_same t cs))) | inr f ↦ rw f (omega (arith, only_same t cs)) ]
 
 pub only_other : (t u : ℕ) (cs : List Carried) → (u == t) ≡ false → carries t (only_task u cs) ≡ 0
 only_other t u [] ne = refl
 only_other t u (c ∷ cs) ne =
-    elim (tested (c.task == u)) [
-      | inl e ↦ rw e (rw (subst (λ n. (n == t) ≡ false) (sym (same_number c.task u e)) ne) (omega (arith, only_other t u cs ne)))
+    elim (cases_Bool (c.task == u)) [
+      | inl e ↦ rw e (rw (subst (λ n. (n == t) ≡ false) (sym (eqb-true c.task u e)) ne) (omega (arith, only_other t u cs ne)))
       | inr f ↦ rw f (only_other t u cs ne)
     ]
 
@@ -44,8 +45,8 @@ number_added x (p ∷ os) = refl
 none_appended : (t : ℕ) (x : ℕ × Event) (xs : List (ℕ × Event)) → has_child t xs ≡ false → is_child t x.1.action ≡ false → has_child t (xs ++ x ∷ []) ≡ false
 none_appended t x [] none other = rw other refl
 none_appended t x (y ∷ xs) none other =
-    elim (tested (is_child t y.1.action)) [
-      | inl e ↦ absurd (true_false _ (rw e refl) none)
+    elim (cases_Bool (is_child t y.1.action)) [
+      | inl e ↦ absurd (both_ways _ none (rw e refl))
       | inr f ↦ rw f (none_appended t x xs (subst (λ b. (b || has_child t xs) ≡ false) f none) other)
     ]
 
@@ -58,7 +59,7 @@ none_added t x (p ∷ os) none other = none_appended t x p.entries none other
 pub of_popped : (id : TableId) (all us : List Seated) (u : Seated) → all ≡ us ++ u ∷ [] → AreOf id all → AreOf id us × (u.clock ≡ id)
 of_popped id all us u parts are =
     let here : AreOf id (us ++ u ∷ []) = subst (λ l. AreOf id l) parts are in
-    ((λ w there. here w (among_first w us (u ∷ []) there)), here u (among_last u us (u ∷ []) (inl refl)))
+    ((λ w there. here w (among_left w us (u ∷ []) there)), here u (among_last u us))
 
 fresh_clock : (id : TableId) (size : Size) (n : ℕ) → (fresh id size n).clock ≡ id
 fresh_clock id size zero = refl
@@ -118,14 +119,14 @@ pub spawned_first : (clock : Ticking) (old new : Seated) (child n : ℕ) (e : Ev
 spawned_first clock old new child n e mid can some made drew same is =
     let tasks = with_child e.action (with_entry (n, e) old.view.tasks) in
     let cut = carries_cut 0 child tasks in
-    let none = only_other 0 child tasks (differs child 0 (λ zero. omega (arith, some, zero))) in
+    let none = only_other 0 child tasks (ne_eqb child 0 (λ zero. omega (arith, some, zero))) in
     let grew = carries_child 0 e.action (with_entry (n, e) old.view.tasks) in
     let entry = carries_entry 0 (n, e) old.view.tasks in
     record {
       draws = record { clock_is = same; carried = rw is (rw drew (omega (arith, cut, none, grew, entry, can.draws.carried))) };
       number = rw is (rw drew (number_added (n, e) old.view.own ∙ can.number));
       new = λ t above.
-          rw is (rw drew (none_added t (n, e) old.view.own (can.new t (omega (arith, above))) (made t ∙ differs child t (λ at. omega (arith, above, at)))));
+          rw is (rw drew (none_added t (n, e) old.view.own (can.new t (omega (arith, above))) (made t ∙ ne_eqb child t (λ at. omega (arith, above, at)))));
     }
 
 pub spawned_other : (clock : Ticking) (old new : Seated) (child n : ℕ) (e : Event) (v mid w : View) → ((t : ℕ) → is_child t e.action ≡ (child == t))
@@ -135,5 +136,5 @@ spawned_other clock old new child n e v mid w made drew passed same is =
     let both = carries_append child old.view.tasks (only_task child tasks) in
     let only = only_same child tasks in
     let grew = carries_child child e.action (with_entry (n, e) v.tasks) in
-    let one = ap {B = ℕ} (λ b. if b then 1 else 0) (made child ∙ itself child) in
+    let one = ap {B = ℕ} (λ b. if b then 1 else 0) (made child ∙ eq-eqb child child refl) in
     record { clock_is = same; carried = rw is (rw passed (rw drew (omega (arith, both, only, grew, one)))) }

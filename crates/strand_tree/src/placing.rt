@@ -15,7 +15,8 @@ pub fn spawn<P: Placer>(placer: &mut P, at: Strand) -> (Strand, Strand)
     requires room { 2 ≤ P.spare placer.old }
     ensures numbers { AreNext (length (P.english placer.old)) result.0.number result.1.number }
     ensures futures { (result.0.future ≡ at.future) × (result.1.future ≡ at.future) }
-    ensures put { HasPut P.Placer placer.old placer.new at.number (result.0.number ∷ result.1.number ∷ []) at.number (result.1.number ∷ result.0.number ∷ []) }
+    ensures put { HasPut P.Placer placer.old placer.new at.number (result.0.number ∷ result.1.number ∷ [])
+        at.number (result.1.number ∷ result.0.number ∷ []) }
 
     // The orders of some structural events become those of these and the spawn.
     ensures extends { (s : List Event) (task code child : ℕ) (args : List Value)
@@ -35,7 +36,8 @@ pub fn create<P: Placer>(placer: &mut P, at: Strand, child: u32) -> (Strand, Str
     requires room { 2 ≤ P.spare placer.old }
     ensures numbers { AreNext (length (P.english placer.old)) result.0.number result.1.number }
     ensures futures { (result.0.future ≡ child) × (result.1.future ≡ at.future) }
-    ensures put { HasPut P.Placer placer.old placer.new at.number (result.0.number ∷ result.1.number ∷ []) at.number (result.1.number ∷ result.0.number ∷ []) }
+    ensures put { HasPut P.Placer placer.old placer.new at.number (result.0.number ∷ result.1.number ∷ [])
+        at.number (result.1.number ∷ result.0.number ∷ []) }
 
     // The orders of some structural events become those of these and the create.
     ensures extends { (s : List Event) (task code : ℕ) (args : List Value)
@@ -56,7 +58,8 @@ pub fn sync<P: Placer>(placer: &mut P, at: Strand, first_last: Option<Strand>) -
     requires room { 1 ≤ P.spare placer.old }
     ensures number { result.number ≡ length (P.english placer.old) }
     ensures future { result.future ≡ at.future }
-    ensures put { HasPut P.Placer placer.old placer.new at.number (result.number ∷ []) (unwrap_or (option_map (λ last. last.number) first_last) at.number) (result.number ∷ []) }
+    ensures put { HasPut P.Placer placer.old placer.new at.number (result.number ∷ [])
+        (unwrap_or (option_map (λ last. last.number) first_last) at.number) (result.number ∷ []) }
 
     // The orders of some structural events become those of these and the sync.
     ensures extends { (s : List Event) (task : ℕ) → IsLastOfFirst s task first_last
@@ -88,7 +91,8 @@ fn fork<P: Placer>(placer: &mut P, at: Strand, kid_future: u32) -> (Strand, Stra
     requires room { 2 ≤ P.spare placer.old }
     ensures numbers { AreNext (length (P.english placer.old)) result.0.number result.1.number }
     ensures futures { (result.0.future ≡ kid_future) × (result.1.future ≡ at.future) }
-    ensures put { HasPut P.Placer placer.old placer.new at.number (result.0.number ∷ result.1.number ∷ []) at.number (result.1.number ∷ result.0.number ∷ []) }
+    ensures put { HasPut P.Placer placer.old placer.new at.number (result.0.number ∷ result.1.number ∷ [])
+        at.number (result.1.number ∷ result.0.number ∷ []) }
 {
     let kid = placer.insert(at.item(), at.item());
     let cont = placer.insert(kid, at.item());
