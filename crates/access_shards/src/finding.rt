@@ -1,5 +1,6 @@
 //! From which kept accesses a strand is not reached.
-ghost use Rattle.std.specs.Prelude.{◌≡◌, ℕ, ◌+◌, ◌<◌, ◌≤◌, List, [], ◌∷◌, ◌++◌, ◌⊎◌, length, option_to_list, vec_len, vec_capacity, IfOk, IfErr, OnOk, OnErr};
+ghost use Rattle.std.specs.Prelude.{◌≡◌, ◌+◌, ◌<◌, ◌≤◌, [], ◌⊎◌, length, option_to_list, vec_len, vec_capacity, IfOk, IfErr, OnOk, OnErr};
+ghost use Rattle.order_list.specs.Frames.{IsAsBefore};
 ghost use Rattle.fut_base.specs.Dag.{Among};
 ghost use Rattle.reach_table.specs.Telling.{AllKnown, HasMovedLast, AsksAtMost};
 ghost use Rattle.access_shards.specs.declared.kept.Access.{Access};
@@ -24,13 +25,8 @@ fn look_on<J: Judge>(
     requires access_known { access.strand.number < J.known judge.old }
     ensures looks { IfOk result (λ next. LooksOn reach.now at (J.known judge.old) (J.english judge.old) (J.hebrew judge.old) access found next) }
     ensures moved { IfErr result (λ moved. HasMovedLast moved (J.may_move judge.old) (J.loaded judge.old) (J.loaded judge.new)) }
-    ensures loads { (more : List ℕ) × (J.loaded judge.new ≡ J.loaded judge.old ++ more) }
     ensures asks { AsksAtMost reach.now 1 (J.asked judge.old) (J.asked judge.new) }
-    ensures known { J.known judge.new ≡ J.known judge.old }
-    ensures english { J.english judge.new ≡ J.english judge.old }
-    ensures hebrew { J.hebrew judge.new ≡ J.hebrew judge.old }
-    ensures may_move { J.may_move judge.new ≡ J.may_move judge.old }
-    ensures home { J.home judge.new ≡ J.home judge.old }
+    ensures judge { IsAsBefore J.Judge judge.old judge.new }
 {
     if reach.try_reaches(judge, access.strand, at)? {
         Ok(found)
@@ -51,13 +47,8 @@ pub fn unreached_writer<J: Judge>(
     requires writer_known { AllOnKnown (J.known judge.old) (option_to_list writer) }
     ensures finds { IfOk result (λ found. FindsLast reach.now at (J.known judge.old) (J.english judge.old) (J.hebrew judge.old) (option_to_list writer) found) }
     ensures moved { IfErr result (λ moved. HasMovedLast moved (J.may_move judge.old) (J.loaded judge.old) (J.loaded judge.new)) }
-    ensures loads { (more : List ℕ) × (J.loaded judge.new ≡ J.loaded judge.old ++ more) }
     ensures asks { AsksAtMost reach.now 1 (J.asked judge.old) (J.asked judge.new) }
-    ensures known { J.known judge.new ≡ J.known judge.old }
-    ensures english { J.english judge.new ≡ J.english judge.old }
-    ensures hebrew { J.hebrew judge.new ≡ J.hebrew judge.old }
-    ensures may_move { J.may_move judge.new ≡ J.may_move judge.old }
-    ensures home { J.home judge.new ≡ J.home judge.old }
+    ensures judge { IsAsBefore J.Judge judge.old judge.new }
 {
     match writer {
         Some(writer) => look_on(judge, reach, at, writer, None),
@@ -76,15 +67,11 @@ pub fn last_unreached<J: Judge>(
     requires at_known { at.number < J.known judge.old }
     requires table_known { AllKnown (J.known judge.old) reach.now }
     requires kept_known { AllOnKnown (J.known judge.old) (all_kept writer readers.now) }
-    ensures finds { IfOk result (λ found. FindsLast reach.now at (J.known judge.old) (J.english judge.old) (J.hebrew judge.old) (all_kept writer readers.now) found) }
+    ensures finds { IfOk result (λ found. FindsLast reach.now at (J.known judge.old) (J.english judge.old) (J.hebrew judge.old)
+        (all_kept writer readers.now) found) }
     ensures moved { IfErr result (λ moved. HasMovedLast moved (J.may_move judge.old) (J.loaded judge.old) (J.loaded judge.new)) }
-    ensures loads { (more : List ℕ) × (J.loaded judge.new ≡ J.loaded judge.old ++ more) }
     ensures asks { AsksAtMost reach.now (length readers.now + 1) (J.asked judge.old) (J.asked judge.new) }
-    ensures known { J.known judge.new ≡ J.known judge.old }
-    ensures english { J.english judge.new ≡ J.english judge.old }
-    ensures hebrew { J.hebrew judge.new ≡ J.hebrew judge.old }
-    ensures may_move { J.may_move judge.new ≡ J.may_move judge.old }
-    ensures home { J.home judge.new ≡ J.home judge.old }
+    ensures judge { IsAsBefore J.Judge judge.old judge.new }
 {
     let mut found = unreached_writer(judge, reach, at, writer)?;
     for reader in readers {
@@ -110,48 +97,11 @@ fn keep_unreached<J: Judge>(
     ensures len { vec_len left.new ≤ vec_len left.old + 1 }
     ensures capacity { vec_capacity left.new ≡ vec_capacity left.old }
     ensures moved { IfErr result (λ moved. HasMovedLast moved (J.may_move judge.old) (J.loaded judge.old) (J.loaded judge.new)) }
-    ensures loads { (more : List ℕ) × (J.loaded judge.new ≡ J.loaded judge.old ++ more) }
     ensures asks { AsksAtMost reach.now 1 (J.asked judge.old) (J.asked judge.new) }
-    ensures known { J.known judge.new ≡ J.known judge.old }
-    ensures english { J.english judge.new ≡ J.english judge.old }
-    ensures hebrew { J.hebrew judge.new ≡ J.hebrew judge.old }
-    ensures may_move { J.may_move judge.new ≡ J.may_move judge.old }
-    ensures home { J.home judge.new ≡ J.home judge.old }
+    ensures judge { IsAsBefore J.Judge judge.old judge.new }
 {
     if !reach.try_reaches(judge, access.strand, at)? {
         left.push_reserved(access);
-    }
-    Ok(())
-}
-
-// Puts those of the accesses from which `at` is not reached into an empty list that has room for all of them.
-fn collect_unreached<J: Judge>(
-    judge: &mut J,
-    reach: &Reach,
-    at: Strand,
-    readers: &[Access],
-    left: &mut Vec<Access>,
-) -> Result<(), Moved>
-    requires at_known { at.number < J.known judge.old }
-    requires table_known { AllKnown (J.known judge.old) reach.now }
-    requires kept_known { AllOnKnown (J.known judge.old) readers.now }
-    requires empty { left.old.items ≡ [] }
-    requires room { length readers.now ≤ vec_capacity left.old }
-    ensures finds { OnOk result (FindsApart reach.now at (J.known judge.old) (J.english judge.old) (J.hebrew judge.old) readers.now left.new.items) }
-    ensures those { OnOk result ((a : Access) → Among a left.new.items → Among a readers.now) }
-    ensures len { vec_len left.new ≤ length readers.now }
-    ensures capacity { vec_capacity left.new ≡ vec_capacity left.old }
-    ensures moved { IfErr result (λ moved. HasMovedLast moved (J.may_move judge.old) (J.loaded judge.old) (J.loaded judge.new)) }
-    ensures loads { (more : List ℕ) × (J.loaded judge.new ≡ J.loaded judge.old ++ more) }
-    ensures asks { AsksAtMost reach.now (length readers.now) (J.asked judge.old) (J.asked judge.new) }
-    ensures known { J.known judge.new ≡ J.known judge.old }
-    ensures english { J.english judge.new ≡ J.english judge.old }
-    ensures hebrew { J.hebrew judge.new ≡ J.hebrew judge.old }
-    ensures may_move { J.may_move judge.new ≡ J.may_move judge.old }
-    ensures home { J.home judge.new ≡ J.home judge.old }
-{
-    for reader in readers {
-        keep_unreached(judge, reach, at, *reader, left)?;
     }
     Ok(())
 }
@@ -176,19 +126,14 @@ pub fn take_unreached<J: Judge>(
     ensures capacity { vec_capacity left.new ≡ vec_capacity left.old }
     ensures none { OnErr result (left.new.items ≡ []) }
     ensures moved { IfErr result (λ moved. HasMovedLast moved (J.may_move judge.old) (J.loaded judge.old) (J.loaded judge.new)) }
-    ensures loads { (more : List ℕ) × (J.loaded judge.new ≡ J.loaded judge.old ++ more) }
     ensures asks { AsksAtMost reach.now (length readers.now) (J.asked judge.old) (J.asked judge.new) }
-    ensures known { J.known judge.new ≡ J.known judge.old }
-    ensures english { J.english judge.new ≡ J.english judge.old }
-    ensures hebrew { J.hebrew judge.new ≡ J.hebrew judge.old }
-    ensures may_move { J.may_move judge.new ≡ J.may_move judge.old }
-    ensures home { J.home judge.new ≡ J.home judge.old }
+    ensures judge { IsAsBefore J.Judge judge.old judge.new }
 {
-    match collect_unreached(judge, reach, at, readers, left) {
-        Ok(()) => Ok(()),
-        Err(moved) => {
+    for reader in readers {
+        if let Err(moved) = keep_unreached(judge, reach, at, *reader, left) {
             left.clear();
-            Err(moved)
+            return Err(moved);
         }
     }
+    Ok(())
 }

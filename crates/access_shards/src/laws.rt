@@ -2,7 +2,8 @@
 ghost use Rattle.std.specs.Prelude.{ℕ};
 ghost use Rattle.access_shards.specs.Touches.{Kinds};
 ghost use Rattle.access_shards.specs.Kept.{Kind, kinds};
-ghost use Rattle.access_shards.specs.Laws.{KeptIsEnough, KeptStays, LogStays, LateStays, CurrentMayCome, NoPathBack, AccessesAreLate, RacesAreOfAccesses, FirstPairIsOfAccesses, KeptTellsRaces};
+ghost use Rattle.access_shards.specs.Laws.{KeptIsEnough, KeptStays, LogStays, LateStays, CurrentMayCome, NoPathBack, AccessesAreLate, KeptTellsRaces};
+ghost use Rattle.access_shards.specs.Laws.{RacesAreOfAccesses, FirstPairIsOfAccesses};
 
 /// While there was no race, the greatest partner of a further access is the greatest one of those that must be kept. The
 /// kinds of access are any numbers here: all that the law asks of them is that a write conflicts with each.

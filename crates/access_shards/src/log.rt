@@ -1,5 +1,6 @@
 //! The accesses of one cell, as far as they are remembered.
-ghost use Rattle.std.specs.Prelude.{◌≡◌, ℕ, ◌+◌, ◌<◌, ◌++◌, true, List, [], None, OnOk, OnErr, IfErr};
+ghost use Rattle.std.specs.Prelude.{◌≡◌, ◌+◌, ◌<◌, ◌++◌, true, List, [], None, OnOk, OnErr, IfErr};
+ghost use Rattle.order_list.specs.Frames.{IsAsBefore};
 ghost use Rattle.reach_table.specs.Telling.{AllKnown, HasMovedLast, AsksAtMost};
 ghost use Rattle.access_shards.specs.declared.kept.Kept.{Kept};
 ghost use Rattle.access_shards.specs.Kept.{reading, writing, AreKnown, StrandsStay, IsNew};
@@ -98,21 +99,10 @@ impl CellLog {
         ensures rise { ComesAfter (J.english judge.old) at self.old → OnOk result (self.new.rise ≡ true) }
         ensures unchanged { OnErr result (self.new ≡ self.old) }
         ensures moved { IfErr result (λ moved. HasMovedLast moved (J.may_move judge.old) (J.loaded judge.old) (J.loaded judge.new)) }
-
-        // What the judge loads is added at the end.
-        ensures loads { (more : List ℕ) × (J.loaded judge.new ≡ J.loaded judge.old ++ more) }
-
-        // How often the judge is asked.
         ensures asks { AsksAtMost reach.now (reader_count self.old.kept + 2) (J.asked judge.old) (J.asked judge.new) }
         ensures drops_each { ComesAfter (J.english judge.old) at self.old → IsNotFull self.old.kept
             → OnOk result (AsksAtMost reach.now (reader_count self.old.kept + 4) (J.asked judge.old) (J.asked judge.new + reader_count self.new.kept)) }
-
-        // The rest of the judge stays.
-        ensures known { J.known judge.new ≡ J.known judge.old }
-        ensures english { J.english judge.new ≡ J.english judge.old }
-        ensures hebrew { J.hebrew judge.new ≡ J.hebrew judge.old }
-        ensures may_move { J.may_move judge.new ≡ J.may_move judge.old }
-        ensures home { J.home judge.new ≡ J.home judge.old }
+        ensures judge { IsAsBefore J.Judge judge.old judge.new }
     {
         let Kept::Clean { writer, readers } = &mut self.kept else {
             return Ok(());
@@ -148,19 +138,8 @@ impl CellLog {
         ensures rise { OnOk result (RisesIfClean self.new.kept self.new.rise) }
         ensures unchanged { OnErr result (self.new ≡ self.old) }
         ensures moved { IfErr result (λ moved. HasMovedLast moved (J.may_move judge.old) (J.loaded judge.old) (J.loaded judge.new)) }
-
-        // What the judge loads is added at the end.
-        ensures loads { (more : List ℕ) × (J.loaded judge.new ≡ J.loaded judge.old ++ more) }
-
-        // How often the judge is asked.
         ensures asks { AsksAtMost reach.now (reader_count self.old.kept + 1) (J.asked judge.old) (J.asked judge.new) }
-
-        // The rest of the judge stays.
-        ensures known { J.known judge.new ≡ J.known judge.old }
-        ensures english { J.english judge.new ≡ J.english judge.old }
-        ensures hebrew { J.hebrew judge.new ≡ J.hebrew judge.old }
-        ensures may_move { J.may_move judge.new ≡ J.may_move judge.old }
-        ensures home { J.home judge.new ≡ J.home judge.old }
+        ensures judge { IsAsBefore J.Judge judge.old judge.new }
     {
         let Kept::Clean { writer, readers } = &self.kept else {
             return Ok(());

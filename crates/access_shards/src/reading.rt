@@ -1,6 +1,7 @@
 //! Which reads are kept with one more.
-ghost use Rattle.std.specs.Prelude.{◌≡◌, ℕ, ◌+◌, ◌<◌, ◌≤◌, List, [], ◌++◌, ◌⊎◌, true, length, vec_len, vec_capacity, IfOk, IfErr, OnOk, OnErr};
+ghost use Rattle.std.specs.Prelude.{◌≡◌, ◌+◌, ◌<◌, ◌≤◌, [], ◌⊎◌, true, length, vec_len, vec_capacity, IfOk, IfErr, OnOk, OnErr};
 ghost use Rattle.fut_base.specs.Dag.{Among};
+ghost use Rattle.order_list.specs.Frames.{IsAsBefore};
 ghost use Rattle.reach_table.specs.Telling.{AllKnown, HasMovedLast, AsksAtMost};
 ghost use Rattle.access_shards.specs.declared.kept.Access.{Access};
 ghost use Rattle.access_shards.specs.Finding.{AllOnKnown};
@@ -26,13 +27,8 @@ fn ends_before<J: Judge>(
     ensures tells { IfOk result (λ yes. yes ≡ true → (rise ≡ true) × EndsBefore (J.english judge.old) at readers.now) }
     ensures always { IfOk result (λ yes. rise ≡ true → EndsBefore (J.english judge.old) at readers.now → yes ≡ true) }
     ensures moved { IfErr result (λ moved. HasMovedLast moved (J.may_move judge.old) (J.loaded judge.old) (J.loaded judge.new)) }
-    ensures loads { (more : List ℕ) × (J.loaded judge.new ≡ J.loaded judge.old ++ more) }
     ensures asks { J.asked judge.new ≤ J.asked judge.old + 1 }
-    ensures known { J.known judge.new ≡ J.known judge.old }
-    ensures english { J.english judge.new ≡ J.english judge.old }
-    ensures hebrew { J.hebrew judge.new ≡ J.hebrew judge.old }
-    ensures may_move { J.may_move judge.new ≡ J.may_move judge.old }
-    ensures home { J.home judge.new ≡ J.home judge.old }
+    ensures judge { IsAsBefore J.Judge judge.old judge.new }
 {
     if !rise {
         return Ok(false);
@@ -65,14 +61,9 @@ fn count_left<J: Judge>(
     ensures within { IfOk result (λ left. left ≤ length readers.now) }
     ensures drops { IfOk result (λ left. DropsEnd reach.now at (J.known judge.old) (J.english judge.old) (J.hebrew judge.old) readers.now left) }
     ensures moved { IfErr result (λ moved. HasMovedLast moved (J.may_move judge.old) (J.loaded judge.old) (J.loaded judge.new)) }
-    ensures loads { (more : List ℕ) × (J.loaded judge.new ≡ J.loaded judge.old ++ more) }
     ensures asks { AsksAtMost reach.now (length readers.now) (J.asked judge.old) (J.asked judge.new) }
     ensures drops_each { IfOk result (λ left. AsksAtMost reach.now (length readers.now + 1) (J.asked judge.old) (J.asked judge.new + left)) }
-    ensures known { J.known judge.new ≡ J.known judge.old }
-    ensures english { J.english judge.new ≡ J.english judge.old }
-    ensures hebrew { J.hebrew judge.new ≡ J.hebrew judge.old }
-    ensures may_move { J.may_move judge.new ≡ J.may_move judge.old }
-    ensures home { J.home judge.new ≡ J.home judge.old }
+    ensures judge { IsAsBefore J.Judge judge.old judge.new }
 {
     let mut left = readers.len();
     while left > 0 {
@@ -97,18 +88,14 @@ fn replace_end<J: Judge>(
     requires kept_known { AllOnKnown (J.known judge.old) readers.old.items }
     requires room { vec_len readers.old < vec_capacity readers.old }
     requires last { EndsBefore (J.english judge.old) new.strand readers.old.items }
-    ensures keeps { OnOk result (KeepsRead reach.now new (J.known judge.old) (J.english judge.old) (J.hebrew judge.old) true readers.old.items true readers.new.items) }
+    ensures keeps { OnOk result (KeepsRead reach.now new (J.known judge.old) (J.english judge.old) (J.hebrew judge.old)
+        true readers.old.items true readers.new.items) }
     ensures those { (a : Access) → Among a readers.new.items → Among a readers.old.items ⊎ (new ≡ a) }
     ensures unchanged { OnErr result (readers.new ≡ readers.old) }
     ensures moved { IfErr result (λ moved. HasMovedLast moved (J.may_move judge.old) (J.loaded judge.old) (J.loaded judge.new)) }
-    ensures loads { (more : List ℕ) × (J.loaded judge.new ≡ J.loaded judge.old ++ more) }
     ensures asks { AsksAtMost reach.now (vec_len readers.old) (J.asked judge.old) (J.asked judge.new) }
     ensures drops_each { OnOk result (AsksAtMost reach.now (vec_len readers.old + 2) (J.asked judge.old) (J.asked judge.new + vec_len readers.new)) }
-    ensures known { J.known judge.new ≡ J.known judge.old }
-    ensures english { J.english judge.new ≡ J.english judge.old }
-    ensures hebrew { J.hebrew judge.new ≡ J.hebrew judge.old }
-    ensures may_move { J.may_move judge.new ≡ J.may_move judge.old }
-    ensures home { J.home judge.new ≡ J.home judge.old }
+    ensures judge { IsAsBefore J.Judge judge.old judge.new }
 {
     let left = count_left(judge, reach, new.strand, readers.as_slice())?;
     readers.truncate(left);
@@ -136,13 +123,8 @@ fn replace_all<J: Judge>(
     ensures unchanged { OnErr result (readers.new ≡ readers.old) }
     ensures capacity { OnErr result (vec_capacity room.new ≡ vec_capacity room.old) }
     ensures moved { IfErr result (λ moved. HasMovedLast moved (J.may_move judge.old) (J.loaded judge.old) (J.loaded judge.new)) }
-    ensures loads { (more : List ℕ) × (J.loaded judge.new ≡ J.loaded judge.old ++ more) }
     ensures asks { AsksAtMost reach.now (vec_len readers.old) (J.asked judge.old) (J.asked judge.new) }
-    ensures known { J.known judge.new ≡ J.known judge.old }
-    ensures english { J.english judge.new ≡ J.english judge.old }
-    ensures hebrew { J.hebrew judge.new ≡ J.hebrew judge.old }
-    ensures may_move { J.may_move judge.new ≡ J.may_move judge.old }
-    ensures home { J.home judge.new ≡ J.home judge.old }
+    ensures judge { IsAsBefore J.Judge judge.old judge.new }
 {
     take_unreached(judge, reach, new.strand, readers.as_slice(), room)?;
     room.push_reserved(new);
@@ -168,22 +150,18 @@ pub fn keep_read<J: Judge>(
     requires kept_known { AllOnKnown (J.known judge.old) readers.old.items }
     requires empty { room.old.items ≡ [] }
     requires room { vec_len readers.old < vec_capacity room.old }
-    ensures keeps { IfOk result (λ rises. KeepsRead reach.now new (J.known judge.old) (J.english judge.old) (J.hebrew judge.old) rise readers.old.items rises readers.new.items) }
+    ensures keeps { IfOk result (λ rises. KeepsRead reach.now new (J.known judge.old) (J.english judge.old) (J.hebrew judge.old)
+        rise readers.old.items rises readers.new.items) }
     ensures rises { IfOk result (λ rises. rise ≡ true → EndsBefore (J.english judge.old) new.strand readers.old.items → rises ≡ true) }
     ensures those { (a : Access) → Among a readers.new.items → Among a readers.old.items ⊎ (new ≡ a) }
     ensures emptied { room.new.items ≡ [] }
     ensures unchanged { OnErr result (readers.new ≡ readers.old) }
     ensures capacity { OnErr result (vec_capacity room.new ≡ vec_capacity room.old) }
     ensures moved { IfErr result (λ moved. HasMovedLast moved (J.may_move judge.old) (J.loaded judge.old) (J.loaded judge.new)) }
-    ensures loads { (more : List ℕ) × (J.loaded judge.new ≡ J.loaded judge.old ++ more) }
     ensures asks { AsksAtMost reach.now (vec_len readers.old + 1) (J.asked judge.old) (J.asked judge.new) }
     ensures drops_each { rise ≡ true → EndsBefore (J.english judge.old) new.strand readers.old.items → vec_len readers.old < vec_capacity readers.old
         → OnOk result (AsksAtMost reach.now (vec_len readers.old + 3) (J.asked judge.old) (J.asked judge.new + vec_len readers.new)) }
-    ensures known { J.known judge.new ≡ J.known judge.old }
-    ensures english { J.english judge.new ≡ J.english judge.old }
-    ensures hebrew { J.hebrew judge.new ≡ J.hebrew judge.old }
-    ensures may_move { J.may_move judge.new ≡ J.may_move judge.old }
-    ensures home { J.home judge.new ≡ J.home judge.old }
+    ensures judge { IsAsBefore J.Judge judge.old judge.new }
 {
     let later = ends_before(judge, rise, new.strand, readers.as_slice())?;
     if later && readers.len() < readers.capacity() {

@@ -1,15 +1,17 @@
-//! The workloads of `bench/parts.py`: one part of a library crate, so many times, on so many threads. It measures nothing itself; the
-//! script takes the time of each call.
+//! The workloads of the scripts in `bench/`: one part of a library crate, so many times, on so many threads. It measures nothing itself;
+//! the script takes the time of each call.
 //!
 //! The words are the name of a part, a count and a number of threads. With others it says how it is used, and ends with 9.
 #![tactic(auto)]
 
+mod draws;
 mod orders;
 mod part;
 #[cfg(test)]
 mod tests;
 mod tree;
 
+use crate::draws::{Beside, added, drawn};
 use crate::orders::{answers_beside, befores_of_live, befores_of_still, relabelled};
 use crate::part::{Part, part_of};
 use crate::tree::{Tree, done_alone, done_by_workers};
@@ -56,7 +58,7 @@ fn tree_of(alloc: Global, part: Part, count: u32) -> Tree {
     Tree { alloc, jobs, steps }
 }
 
-// How many jobs or questions of a part were done.
+// How many jobs, questions or draws of a part were done.
 fn done_of<R: Threads + Wait + Sync>(
     rt: &R,
     alloc: Global,
@@ -70,6 +72,10 @@ fn done_of<R: Threads + Wait + Sync>(
         Part::Live => Ok(u64::from(befores_of_live(alloc, count)?)),
         Part::Readers => answers_beside(rt, alloc, count, asked.threads),
         Part::Relabelled => relabelled(alloc, count),
+        Part::Added => added(rt, alloc, count, asked.threads),
+        Part::Drawn => drawn(rt, alloc, count, asked.threads, Beside::Nothing),
+        Part::Noted => drawn(rt, alloc, count, asked.threads, Beside::Note),
+        Part::Split => drawn(rt, alloc, count, asked.threads, Beside::Split),
         Part::Pool | Part::Work | Part::Long => {
             Ok(u64::from(done_by_workers(rt, &tree, asked.threads)?))
         }

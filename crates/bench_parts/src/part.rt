@@ -21,6 +21,14 @@ pub enum Part {
     Readers,
     /// The items that are relabelled in so many inserts at one place.
     Relabelled,
+    /// Additions to one word, so many on each thread.
+    Added,
+    /// Draws from one clock, so many on each thread by a holder of its own.
+    Drawn,
+    /// The same, and at each draw the holder makes a pass and takes it back.
+    Noted,
+    /// The same, and each pass is split and joined meanwhile.
+    Split,
 }
 
 /// The part of this name.
@@ -36,6 +44,10 @@ pub fn part_of(name: &str) -> Option<Part>
         "live" => Some(Part::Live),
         "readers" => Some(Part::Readers),
         "relabelled" => Some(Part::Relabelled),
+        "added" => Some(Part::Added),
+        "drawn" => Some(Part::Drawn),
+        "noted" => Some(Part::Noted),
+        "split" => Some(Part::Split),
         _ => None,
     }
 }

@@ -1,6 +1,10 @@
 -- A whole history without a race, and any other legal one.
 use Rattle.std.proofs.Common.{◌≡◌, ◌≢◌, ℕ, zero, suc, ◌+◌, ◌<◌, ◌≤◌, List, [], ◌∷◌, length, reverse, slice_get, slice_set, ◌⊎◌, inl, inr, refl, sym, ap, ◌∙◌, subst, arith}
 use Rattle.std.specs.Prelude.{Option, Some, None, IsSome, ℤ}
+use Rattle.std.proofs.lemmas.Bool.{cases_eq, cases_lt}
+use Rattle.std.proofs.lemmas.Option.{same_Some}
+use Rattle.std.proofs.lemmas.List.{length-reverse}
+use Rattle.run_laws.proofs.Stuck.{cells_stay}
 use Rattle.fut_base.specs.declared.record.Value.{Value}
 use Rattle.fut_base.specs.declared.event.Event.{Event}
 use Rattle.fut_base.specs.declared.event.Action.{Action}
@@ -11,12 +15,10 @@ use Rattle.fut_base.specs.Racing.{IsAccess, IsWrite}
 use Rattle.fut_syntax.specs.Trees as tree
 use Rattle.task_machine.specs.Texts.{main_of}
 use Rattle.task_machine.specs.State.{wish_of}
-use Rattle.task_machine.specs.Machine.{Machine, Running, opening, begins, IsStep, Leads, EachEnded, Permits, AllHaveEnded, ended_with, child_of, cells_after}
+use Rattle.task_machine.specs.Machine.{Machine, Running, opening, begins, IsStep, Leads, EachEnded, Permits, AllHaveEnded, ended_with, child_of}
 use Rattle.task_machine.proofs.Making.{child_comes}
 use Rattle.task_machine.proofs.Places.{get_below}
 use Rattle.task_machine.proofs.Stepping.{stands_at_one}
-use Rattle.strand_laws.proofs.Places.{same_or_not}
-use Rattle.strand_laws.proofs.Worlds.{lt_or_le}
 use Rattle.strand_laws.proofs.Links.{ev}
 use Rattle.access_shards.proofs.Histories.{Stood, stood_lt}
 use Rattle.run_laws.proofs.Pasts.{Came, came}
@@ -34,16 +36,13 @@ use Rattle.clean_laws.proofs.Paired.{Paired, SameTouch, Conflict, IsClean, confl
 use Rattle.clean_laws.proofs.Agreeing.{Agrees, agrees}
 use Rattle.clean_laws.proofs.Matching.{SameBlock, IsSameTask, Cut, IsMatch, wider_task, same_acted, Born, step_match}
 
-some_same : {X : Type 0} {a b : X} → Some a ≡ Some b → a ≡ b
-some_same z = cc
-
 none_other : (names : Names) (o p : Option Value) → SameOption (Matched names) o p → o ≡ None → p ≡ None
 none_other names None None h e = refl
 none_other names None (Some w) h e = absurd h
 none_other names (Some v) p h e = cc
 
 some_other : (names : Names) (o p : Option Value) (v : Value) → SameOption (Matched names) o p → o ≡ Some v → (w : Value) × (p ≡ Some w) × SameValue (Matched names) v w
-some_other names (Some x) (Some y) v h e = (y, refl, subst (λ z. SameValue (Matched names) z y) (some_same e) h)
+some_other names (Some x) (Some y) v h e = (y, refl, subst (λ z. SameValue (Matched names) z y) (same_Some _ _ e) h)
 some_other names (Some x) None v h e = absurd h
 some_other names None p v h e = cc
 
@@ -68,7 +67,7 @@ pub record Without (n : ℕ) (xs : List ℕ) : Type 0 where
 
 without : (n : ℕ) (xs : List ℕ) → Distinct xs → Without n xs
 without n [] d = record { rest = []; distinct = tt; short = omega arith; from = λ i a. absurd a }
-without n (x ∷ xs) d = elim (same_or_not x n) [
+without n (x ∷ xs) d = elim (cases_eq x n) [
   | inl e ↦ record { rest = xs; distinct = d.1; short = omega arith; from = λ i a. (inr a, λ q. d.0 (subst (λ z. Among z xs) (q ∙ sym e) a)) }
   | inr ne ↦ (
       let k = without n xs d.1 in
@@ -114,7 +113,7 @@ many (suc n) xs f =
 
 stood_some : (past : List Event) (i : ℕ) → i < length past → (d : Event) × Stood past i d
 stood_some [] i lt = absurd (omega (arith, lt))
-stood_some (e ∷ past) i lt = elim (same_or_not (length past) i) [
+stood_some (e ∷ past) i lt = elim (cases_eq (length past) i) [
   | inl p ↦ (e, inl (p, refl))
   | inr ne ↦ (let k = stood_some past i (omega (arith, lt, ne)) in (k.0, inr k.1))
 ]
@@ -158,8 +157,8 @@ module _ (P : tree.Program) (h : List Event) (m : Machine) (leads : Leads P (ope
           let j = ended_is q u w at in
           let a = value_of_mate c u k.0 v mt k.1 k.2 in
           let b = ended_stays P (reverse h) older u j.0 w q m came_q j.1 j.2 cm (tail_on (reverse h) d older tail) in
-          let same : a.0 ≡ j.0 = some_same (sym a.2 ∙ b) in
-          subst (SameValue (Matched names) v) (some_same (sym a.3 ∙ ap (λ (z : Running). z.value) same ∙ j.2)) a.4
+          let same : a.0 ≡ j.0 = same_Some _ _ (sym a.2 ∙ b) in
+          subst (SameValue (Matched names) v) (same_Some _ _ (sym a.3 ∙ ap (λ (z : Running). z.value) same ∙ j.2)) a.4
 
       due_of : (d : Event) → IsTail (reverse h) (d ∷ older) → (a b : Action) (r p : Running) → Agrees names a b → Permits n r a → SameBlock names r.block p.block → (bs : List ℕ) → bs ≡ p.block → HasAllOf places older (waited_by bs b)
       due_of d tail (Syncs _) (Syncs _) r p g may s bs is = subst (HasAllOf places older) (sym is) (block_due d tail r.block p.block s may.1)
@@ -259,9 +258,9 @@ module _ (P : tree.Program) (h : List Event) (m : Machine) (leads : Leads P (ope
               elim got [ inl p ↦ absurd (omega (arith, p, lt)) | inr a ↦ a ]
 
           above : (i : ℕ) (b : Event) (y : ℤ) → Stood (reverse h) i b → b.action ≡ Writes c y → Among i places → i < length older
-          above i b y st is a = elim (lt_or_le i (length older)) [
+          above i b y st is a = elim (cases_lt i (length older)) [
             | inl lt ↦ lt
-            | inr le ↦ elim (same_or_not (length older) i) [
+            | inr le ↦ elim (cases_eq (length older) i) [
               | inl p ↦ absurd (k.fresh (subst (λ z. Among z places) (sym p) a))
               | inr ne ↦ absurd (k.fresh (conflict_in P h m leads clean places x.closed c (length older) i (ev u z (Reads c' w)) b here st (omega (arith, le, ne)) (record { one = access; other = subst (IsAccess c) (sym is) refl; write = inr (subst IsWrite (sym is) tt) }) a))
             ]
@@ -294,7 +293,7 @@ module _ (P : tree.Program) (h : List Event) (m : Machine) (leads : Leads P (ope
         go cut y =
             let d = y.event in
             let own = y.step in
-            let task_is : own.task ≡ cut.task = some_same (sym own.present ∙ ap (slice_get (y.machine).tasks) y.task_is ∙ y.present) in
+            let task_is : own.task ≡ cut.task = same_Some _ _ (sym own.present ∙ ap (slice_get (y.machine).tasks) y.task_is ∙ y.present) in
             let same : IsSameTask names step.task own.task = subst (IsSameTask names step.task) (sym task_is) cut.same in
             let stands = stands_at_same names step.task.state own.task.state step.stop same.state step.stands in
             let stop : IsSameState (Matched names) step.stop own.stop = subst (IsSameState (Matched names) step.stop) (stands_at_one own.task.state stands.0 own.stop stands.1 own.stands) stands.2 in
@@ -397,7 +396,7 @@ module _ (P : tree.Program) (h : List Event) (m : Machine) (leads : Leads P (ope
     mates_all [] q c l u lt =
         let one : length q.tasks ≡ 1 = ap (λ (z : Machine). length z.tasks) (sym c) in
         let z : 0 ≡ u = omega (arith, lt, one) in (0, subst (λ i. Matched names 0 i) z x.zero)
-    mates_all (e ∷ past) q (k, c, step) l u lt = elim (lt_or_le u (length k.tasks)) [
+    mates_all (e ∷ past) q (k, c, step) l u lt = elim (cases_lt u (length k.tasks)) [
       | inl old ↦ mates_all past k c (tail_on (reverse h) e past l) u old
       | inr new ↦ (
           let t = mates_all past k c (tail_on (reverse h) e past l) e.task (get_below k.tasks e.task step.task step.present) in
@@ -439,8 +438,8 @@ module _ (P : tree.Program) (h : List Event) (m : Machine) (leads : Leads P (ope
             let k = paired_length (reverse h) gp places x.paired in
             let f = few (length (reverse h)) places k.1 k.2 in
             let o = many (length (reverse h)) places (λ i lt. (let s = stood_some (reverse h) i lt in all_there (reverse h) m cm (tail_same (reverse h)) i s.0 s.1)) in
-            let a = Rattle.std.proofs.lemmas.List.length-reverse h in
-            let b = ap length is ∙ Rattle.std.proofs.lemmas.List.length-reverse g in
+            let a = length-reverse h in
+            let b = ap length is ∙ length-reverse g in
             omega (arith, f, o, k.0, a, b)
 
         inside : (t u : ℕ) → Matched names t u → (t < length n.tasks) × (u < length m.tasks)
@@ -458,7 +457,7 @@ module _ (P : tree.Program) (h : List Event) (m : Machine) (leads : Leads P (ope
             let cut = x.tasks t q at in
             let w = some_other names q.value (cut.task).value v.0 cut.same.value v.1 in
             let stays = ended_stays P (reverse h) cut.older cut.mate cut.task w.0 cut.machine m cut.came cut.present w.1 cm cut.tail in
-            let same : cut.task ≡ r = some_same (sym stays ∙ ap (slice_get m.tasks) (x.mates t cut.mate u cut.matched mt) ∙ on) in
+            let same : cut.task ≡ r = same_Some _ _ (sym stays ∙ ap (slice_get m.tasks) (x.mates t cut.mate u cut.matched mt) ∙ on) in
             (cut.same.which ∙ ap (λ (z : Running). z.which) same, subst (λ (z : Running). SameOption (Matched names) q.value z.value) same cut.same.value)
 
         one : (t u : ℕ) → Matched names t u → SameTrace names (events_by t gp) (events_by u (reverse h))
@@ -477,18 +476,9 @@ set_length [] i v = refl
 set_length (y ∷ xs) zero v = refl
 set_length (y ∷ xs) (suc i) v = ap suc (set_length xs i v)
 
-cells_length : (a : Action) (cells : List ℤ) → length (cells_after a cells) ≡ length cells
-cells_length (Writes c v) cells = set_length cells c v
-cells_length (Reads _ _) cells = refl
-cells_length (Spawns _ _ _ _ _) cells = refl
-cells_length (Creates _ _ _ _ _) cells = refl
-cells_length (Syncs _) cells = refl
-cells_length (Gets _ _ _) cells = refl
-cells_length (Ends _) cells = refl
-
 came_length : (P : tree.Program) (past : List Event) (m : Machine) → Came P past m → length m.cells ≡ length (opening P).cells
 came_length P [] m c = ap (λ (z : Machine). length z.cells) (sym c)
-came_length P (e ∷ past) m (q, c, step) = ap (λ (z : Machine). length z.cells) step.gives ∙ cells_length e.action q.cells ∙ came_length P past q c
+came_length P (e ∷ past) m (q, c, step) = ap (λ (z : Machine). length z.cells) step.gives ∙ cells_stay e.action q.cells ∙ came_length P past q c
 
 same_list : (xs ys : List ℤ) → length xs ≡ length ys → ((c : ℕ) (v w : ℤ) → slice_get xs c ≡ Some v → slice_get ys c ≡ Some w → v ≡ w) → xs ≡ ys
 same_list [] [] l f = refl
@@ -506,8 +496,8 @@ clean_all P h g m n lh ended report lg =
     let x = matches P h m lh ended clean (reverse g) n cg in
     let k = paired_length (reverse h) (reverse g) x.0 x.2.paired in
     let f = few (length (reverse h)) x.0 k.1 k.2 in
-    let a = Rattle.std.proofs.lemmas.List.length-reverse h in
-    let b = Rattle.std.proofs.lemmas.List.length-reverse g in (
+    let a = length-reverse h in
+    let b = length-reverse g in (
       omega (arith, f, k.0, a, b),
       λ done. sym (same_list n.cells m.cells (came_length P (reverse g) n cg ∙ sym (came_length P (reverse h) m (came P h m lh)))
           (λ c v w p q. one_cell P h m lh ended clean (reverse g) n cg done x.0 x.1 x.2 c v w p q)),

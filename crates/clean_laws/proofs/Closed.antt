@@ -1,6 +1,7 @@
 -- Closed sets of places are closed under paths.
 use Rattle.std.proofs.Common.{◌≡◌, ℕ, ◌<◌, ◌≤◌, Bool, true, false, cond, List, [], ◌∷◌, length, reverse, ◌⊎◌, inl, inr, refl, sym, ap, ◌∙◌, subst, arith, if◌then◌else◌, ◌==◌}
 use Rattle.std.specs.Prelude.{Some, None, option_map}
+use Rattle.std.proofs.lemmas.Bool.{cases_eq}
 use Rattle.fut_base.specs.declared.record.Value.{Value}
 use Rattle.fut_base.specs.declared.event.Event.{Event}
 use Rattle.fut_base.specs.declared.event.Action.{Action}
@@ -10,7 +11,6 @@ use Rattle.fut_base.specs.Dag.{Among, edges_by, edges_past, block_of, block_afte
 use Rattle.fut_base.specs.Sound.{IsSoundPast, MayFollow, current, next_strand, next_task}
 use Rattle.fut_syntax.specs.Trees as tree
 use Rattle.task_machine.specs.Machine.{Machine}
-use Rattle.strand_laws.proofs.Places.{same_or_not}
 use Rattle.strand_laws.proofs.Far.{Far, far_old}
 use Rattle.strand_laws.proofs.Worlds.{Task}
 use Rattle.strand_laws.proofs.Holding.{opened, begun, moved}
@@ -24,7 +24,7 @@ use Rattle.strand_laws.proofs.Ways.{far_edge}
 use Rattle.strand_laws.proofs.Inside.{far_of_reach, reach_of_far}
 use Rattle.strand_laws.proofs.Early.{sync_cur, else_same, kid_spawn, kid_create}
 use Rattle.strand_laws.proofs.Still.{current_ends_paths}
-use Rattle.strand_laws.proofs.Structure.{reverse_filter, structure_has_edges}
+use Rattle.strand_laws.proofs.Structure.{reverse_filter, structure_has_edges, next_grows, sound_rest}
 use Rattle.access_shards.specs.Histories.{IsStanding, AreStanding}
 use Rattle.access_shards.proofs.Histories.{Stood, stood_lt, stood_of, same_current, same_last}
 use Rattle.run_laws.proofs.Pasts.{Came, came, kept_of}
@@ -89,7 +89,7 @@ module _ (past : List Event) (sp : IsSoundPast past) (t s : ℕ) where
   kid_place (Ends v) m q e l = absurd (omega arith)
 
   pub placed : (a : Action) (m : MayFollow past (ev t s a)) (q : ℕ) → q < next_task (ev t s a ∷ past) → Place past t s a q
-  placed a m q l = elim (same_or_not q t) [
+  placed a m q l = elim (cases_eq q t) [
     | inl e ↦ subst (λ z. Place past t s a z) (sym e) (own_place a m)
     | inr ne ↦ elim (all_tasks past sp t s a m q l) [
       | inl o ↦ inl (o, else_same past sp t s a m q o ne)
@@ -121,14 +121,6 @@ has_of places past (x ∷ ts) t (inl e) h = subst (HasAll places past) e h.0
 has_of places past (x ∷ ts) t (inr a) h = has_of places past ts t a h.1
 
 -- the strand of an event is one of the structure
-next_grows : (b : Bool) (e : Event) (rest : List Event) → next_strand rest ≤ next_strand (cond b (e ∷ rest) rest)
-next_grows true e rest = omega arith
-next_grows false e rest = omega arith
-
-sound_rest : (b : Bool) (e : Event) (rest : List Event) → IsSoundPast (cond b (e ∷ rest) rest) → IsSoundPast rest
-sound_rest true e rest h = h.0
-sound_rest false e rest h = h
-
 module _ (past : List Event) (e : Event) (sound : IsSoundPast (kept_of past)) (standing : IsStanding past e) where
   cur_here : current (kept_of past) e.task ≡ Some e.strand
   cur_here = same_current past e.task ∙ standing.stands

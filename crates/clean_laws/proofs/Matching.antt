@@ -1,6 +1,7 @@
 -- A further event of the other run is matched too.
 use Rattle.std.proofs.Common.{◌≡◌, ◌≢◌, ℕ, zero, suc, ◌+◌, ◌<◌, ◌≤◌, List, [], ◌∷◌, ◌++◌, length, slice_get, ◌⊎◌, inl, inr, refl, sym, ap, ◌∙◌, subst, arith}
 use Rattle.std.specs.Prelude.{Option, Some, None}
+use Rattle.std.proofs.lemmas.Bool.{cases_eq}
 use Rattle.fut_base.specs.declared.record.Value.{Value}
 use Rattle.fut_base.specs.declared.event.Event.{Event}
 use Rattle.fut_base.specs.declared.event.Action.{Action}
@@ -12,7 +13,6 @@ use Rattle.task_machine.specs.State.{TaskState}
 use Rattle.task_machine.specs.Machine.{Machine, Running, IsStep, acted, child_of}
 use Rattle.task_machine.proofs.Making.{acting_task}
 use Rattle.task_machine.proofs.Places.{get_below}
-use Rattle.strand_laws.proofs.Places.{same_or_not}
 use Rattle.access_shards.proofs.Histories.{Stood}
 use Rattle.run_laws.proofs.Pasts.{Came, get_after}
 use Rattle.clean_laws.specs.Same.{Names, Matched, Wider, SameOption, IsSameState, SameAction}
@@ -244,7 +244,7 @@ module _ (P : tree.Program) (hp gp : List Event) (n next : Machine) (e : Event) 
           behind (z ∷ past) i y (inr s) = let k = behind past i y s in (k.0, inr k.1, k.2)
 
           later : (rest : List Event) × IsTail hp (y ∷ rest) × (length rest ≡ i) → ⊥
-          later (rest, t, l) = elim (same_or_not (length older) i) [
+          later (rest, t, l) = elim (cases_eq (length older) i) [
             | inl q ↦ fresh (subst (λ z. Among z places) (sym q) a)
             | inr ne ↦ (
                 let all_of = due_at places hp rest y t x.closed (subst (λ z. Among z places) (sym l) a) in

@@ -1,6 +1,7 @@
 -- The events of another run, each paired with a place of a history without a race: cells have the same values.
 use Rattle.std.proofs.Common.{◌≡◌, ◌≢◌, ℕ, ◌<◌, ◌≤◌, List, [], ◌∷◌, length, reverse, slice_get, ◌⊎◌, inl, inr, refl, sym, ap, ◌∙◌, subst, arith}
 use Rattle.std.specs.Prelude.{Some, ℤ}
+use Rattle.std.proofs.lemmas.Bool.{cases_eq}
 use Rattle.fut_base.specs.declared.event.Event.{Event}
 use Rattle.fut_base.specs.declared.event.Action.{Action}
 use Rattle.fut_base.specs.declared.event.Action.TheVariants.{Reads, Writes, Spawns, Creates, Syncs, Gets, Ends}
@@ -8,7 +9,6 @@ use Rattle.fut_base.specs.Dag.{Among, Reaches}
 use Rattle.fut_base.specs.Racing.{IsAccess, IsWrite, PlacesRace}
 use Rattle.fut_syntax.specs.Trees as tree
 use Rattle.task_machine.specs.Machine.{Machine, opening, Leads}
-use Rattle.strand_laws.proofs.Places.{same_or_not}
 use Rattle.access_shards.specs.Histories.{IsInStep}
 use Rattle.access_shards.proofs.Histories.{Stood, stood_lt, get_of, no_path_back}
 use Rattle.run_laws.proofs.Pasts.{Came, came}
@@ -19,7 +19,7 @@ use Rattle.clean_laws.proofs.Tails.{IsTail, stood_tail, stood_down, stood_one, L
 
 pub among_or_not : (i : ℕ) (xs : List ℕ) → Among i xs ⊎ (Among i xs → ⊥)
 among_or_not i [] = inr (λ h. h)
-among_or_not i (x ∷ xs) = elim (same_or_not x i) [
+among_or_not i (x ∷ xs) = elim (cases_eq x i) [
   | inl e ↦ inl (inl e)
   | inr ne ↦ elim (among_or_not i xs) [ inl a ↦ inl (inr a) | inr off ↦ inr (λ h. elim h [ inl e ↦ ne e | inr a ↦ off a ]) ]
 ]
@@ -169,7 +169,7 @@ module _ (P : tree.Program) (h gp : List Event) (m n : Machine) (places : List �
           let b = back l.place l.event w l.there l.writes in
           let le : o.0 ≤ l.place = l.last o.0 o.1 v o.2 o.3 in
           let ge : b.0 ≤ g.place = g.last b.0 b.1 w b.2 b.3 in
-          elim (same_or_not o.0 l.place) [
+          elim (cases_eq o.0 l.place) [
             | inl same ↦ values (sym o.3 ∙ ap (λ (z : Event). z.action) (stood_one older l.place o.1 l.event (subst (λ z. Stood older z o.1) same o.2) l.there) ∙ l.writes)
             | inr ne ↦ absurd (
                 let lt : o.0 < l.place = omega (arith, le, ne) in

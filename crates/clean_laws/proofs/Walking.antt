@@ -1,6 +1,9 @@
 -- From a beginning of a history on to the next event of a task.
 use Rattle.std.proofs.Common.{◌≡◌, ◌≢◌, ℕ, ◌+◌, ◌≤◌, List, [], ◌∷◌, length, slice_get, ◌⊎◌, inl, inr, refl, sym, ap, cond, ◌∙◌, subst, arith}
 use Rattle.std.specs.Prelude.{Option, Some, None}
+use Rattle.std.proofs.lemmas.Bool.{cases_eq}
+use Rattle.std.proofs.lemmas.Option.{same_Some}
+use Rattle.fut_base.proofs.Cases.{by_eq}
 use Rattle.fut_base.specs.declared.record.Value.{Value}
 use Rattle.fut_base.specs.declared.event.Event.{Event}
 use Rattle.fut_base.specs.declared.event.Action.{Action}
@@ -11,7 +14,6 @@ use Rattle.fut_syntax.specs.Trees as tree
 use Rattle.task_machine.specs.Machine.{Machine, Running, IsStep, Permits}
 use Rattle.task_machine.proofs.Making.{others_stay, task_count}
 use Rattle.task_machine.proofs.Places.{get_below}
-use Rattle.strand_laws.proofs.Places.{same_or_not, by_eq}
 use Rattle.access_shards.proofs.Histories.{Stood}
 use Rattle.run_laws.proofs.Pasts.{Came}
 use Rattle.clean_laws.specs.Closed.{Makes, Concerns, HasAll, HasAllOf, waited, IsDue, IsClosed}
@@ -148,7 +150,7 @@ walk P (x ∷ hp) before places u r q m cb present has c (inl l) =
     inr (subst (λ (z : Machine). slice_get z.tasks u ≡ Some r) (came_one P (x ∷ hp) q m (subst (λ z. Came P z q) (sym l) cb) c) present, subst (λ z. HasAll places z u) (sym l) has, ap (λ z. events_by u z) l)
 walk P (x ∷ hp) before places u r q m cb present has (k, c, step) (inr l) = elim (walk P hp before places u r q k cb present has c l) [
   | inl n ↦ inl (record { older = n.older; event = n.event; tail = inr n.tail; later = n.later; machine = n.machine; came = n.came; present = n.present; next = n.next; step = n.step; task_is = n.task_is; all = n.all; trace = n.trace })
-  | inr s ↦ elim (same_or_not x.task u) [
+  | inr s ↦ elim (cases_eq x.task u) [
     | inl e ↦ inl (record { older = hp; event = x; tail = inl refl; later = tail_short hp before l; machine = k; came = c; present = s.0; next = m; step = step; task_is = e; all = s.1; trace = s.2 })
     | inr ne ↦ inr (others_stay P k x m u r step (λ e. ne (sym e)) s.0, (s.1, λ z. absurd (elim z [ inl e ↦ ne e | inr mk ↦ not_new P k m x u r step s.0 mk ])), by_off x hp u ne ∙ s.2)
   ]
@@ -163,29 +165,20 @@ ended_stays P [] before u r v q m cb present ended c l = subst (λ (z : Machine)
 ended_stays P (x ∷ hp) before u r v q m cb present ended c (inl l) = subst (λ (z : Machine). slice_get z.tasks u ≡ Some r) (came_one P (x ∷ hp) q m (subst (λ z. Came P z q) (sym l) cb) c) present
 ended_stays P (x ∷ hp) before u r v q m cb present ended (k, c, step) (inr l) =
     let s = ended_stays P hp before u r v q k cb present ended c l in
-    others_stay P k x m u r step (λ e. none_some v r.value ended (ap (λ (z : Running). z.value) (same (sym s ∙ ap (slice_get k.tasks) e ∙ step.present)) ∙ step.running)) s
-  where
-    same : {a b : Running} → Some a ≡ Some b → a ≡ b
-    same z = cc
+    others_stay P k x m u r step (λ e. none_some v r.value ended (ap (λ (z : Running). z.value) (same_Some _ _ (sym s ∙ ap (slice_get k.tasks) e ∙ step.present)) ∙ step.running)) s
 
 -- and all its events are there
 pub ended_all : (P : tree.Program) (hp before : List Event) (places : List ℕ) (u : ℕ) (r : Running) (v : Value) (q m : Machine) → Came P before q → slice_get q.tasks u ≡ Some r → r.value ≡ Some v → HasAll places before u → Came P hp m → IsTail hp before
     → HasAll places hp u
 ended_all P hp before places u r v q m cb present ended has c l = elim (walk P hp before places u r q m cb present has c l) [
   | inr s ↦ s.1
-  | inl n ↦ absurd (none_some v r.value ended (ap (λ (z : Running). z.value) (same (sym n.present ∙ ap (slice_get n.machine.tasks) (sym n.task_is) ∙ n.step.present)) ∙ n.step.running))
+  | inl n ↦ absurd (none_some v r.value ended (ap (λ (z : Running). z.value) (same_Some _ _ (sym n.present ∙ ap (slice_get n.machine.tasks) (sym n.task_is) ∙ n.step.present)) ∙ n.step.running))
 ]
-  where
-    same : {a b : Running} → Some a ≡ Some b → a ≡ b
-    same z = cc
 
 -- and there is no other one
 pub ended_trace : (P : tree.Program) (hp before : List Event) (places : List ℕ) (u : ℕ) (r : Running) (v : Value) (q m : Machine) → Came P before q → slice_get q.tasks u ≡ Some r → r.value ≡ Some v → HasAll places before u → Came P hp m → IsTail hp before
     → events_by u hp ≡ events_by u before
 ended_trace P hp before places u r v q m cb present ended has c l = elim (walk P hp before places u r q m cb present has c l) [
   | inr s ↦ s.2
-  | inl n ↦ absurd (none_some v r.value ended (ap (λ (z : Running). z.value) (same (sym n.present ∙ ap (slice_get n.machine.tasks) (sym n.task_is) ∙ n.step.present)) ∙ n.step.running))
+  | inl n ↦ absurd (none_some v r.value ended (ap (λ (z : Running). z.value) (same_Some _ _ (sym n.present ∙ ap (slice_get n.machine.tasks) (sym n.task_is) ∙ n.step.present)) ∙ n.step.running))
 ]
-  where
-    same : {a b : Running} → Some a ≡ Some b → a ≡ b
-    same z = cc

@@ -1,5 +1,5 @@
 -- Programs with two different whole runs, worked out by hand.
-use Rattle.std.specs.Prelude.{◌≡◌, ℕ, pos, List, [], ◌∷◌, codes, ℤ}
+use Rattle.std.specs.Prelude.{◌≡◌, pos, List, [], ◌∷◌, codes, ℤ}
 use Rattle.fut_base.specs.declared.record.Value.TheVariants.{Int}
 use Rattle.fut_base.specs.declared.event.Event.{Event}
 use Rattle.fut_base.specs.declared.event.Action.TheVariants.{Writes, Spawns, Syncs, Ends}

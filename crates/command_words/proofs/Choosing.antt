@@ -4,6 +4,7 @@ use Rattle.std.specs.Prelude.{nat_lt}
 use Rattle.std.specs.Str.Parse.{ParsesUnsigned}
 use Rattle.std.proofs.lemmas.Fmt.{parse-decimal, decimal_injective}
 use Rattle.std.proofs.lemmas.List.{append-nil, length-map}
+use Rattle.fut_base.specs.declared.limits.TheConstants.{MOST_WORKERS}
 use Rattle.command_words.specs.declared.options.Choice.{Choice}
 use Rattle.command_words.specs.declared.options.Choice.TheVariants as choice
 use Rattle.command_words.specs.declared.options.Seen as declared
@@ -111,7 +112,7 @@ splits w (d ∷ ds) (c ∷ cs) rest a b e =
 -- ---- no options
 
 -- words that begin with `--workers` and no number in range
-pub no_crew : (workers : Bool) (words rest : List (List ℕ)) → words ≡ codes "--workers" ∷ rest → ((n : ℕ) (more : List (List ℕ)) → IsFromOneTo 64 n → rest ≡ decimal n ∷ more → ⊥) → (c : Choice) (more : List (List ℕ)) → MayStand workers c → words ≡ spelling c ++ more → ⊥
+pub no_crew : (workers : Bool) (words rest : List (List ℕ)) → words ≡ codes "--workers" ∷ rest → ((n : ℕ) (more : List (List ℕ)) → IsFromOneTo MOST_WORKERS n → rest ≡ decimal n ∷ more → ⊥) → (c : Choice) (more : List (List ℕ)) → MayStand workers c → words ≡ spelling c ++ more → ⊥
 no_crew workers words rest is none (choice.Events n) more may e = let q : codes "--workers" ≡ codes "--events" = (let both : codes "--workers" ∷ rest ≡ codes "--events" ∷ (decimal n ∷ more) = sym is ∙ e in cc) in cc
 no_crew workers words rest is none choice.Brief more may e = let q : codes "--workers" ≡ codes "--brief" = (let both : codes "--workers" ∷ rest ≡ codes "--brief" ∷ more = sym is ∙ e in cc) in cc
 no_crew workers words rest is none (choice.Workers n) more may e =

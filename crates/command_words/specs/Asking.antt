@@ -1,5 +1,6 @@
 -- What the words of a command line ask for.
 use Rattle.std.specs.Prelude.{◌≡◌, ℕ, ◌+◌, ◌≤◌, Bool, true, false, nat_lt, List, [], ◌∷◌, ◌++◌, codes, decimal, Option, Some, None, ◌⊎◌}
+use Rattle.fut_base.specs.declared.limits.TheConstants.{MOST_ENTRIES, MOST_PROGRAM_BYTES, MOST_RECORD_BYTES, MOST_WORKERS}
 use Rattle.command_words.specs.declared.options.Choice.{Choice}
 use Rattle.command_words.specs.declared.options.Choice.TheVariants as choice
 use Rattle.command_words.specs.declared.words.Command.{Command}
@@ -24,11 +25,11 @@ IsFromOneTo most n = (1 ≤ n) × (n ≤ most)
 
 -- the numbers of entries that a run may be bounded by
 abbrev pub IsBound : ℕ → Type 0
-IsBound events = IsFromOneTo 1000000 events
+IsBound events = IsFromOneTo MOST_ENTRIES events
 
 -- the numbers of workers that a run may have
 abbrev pub AreWorkers : ℕ → Type 0
-AreWorkers workers = IsFromOneTo 64 workers
+AreWorkers workers = IsFromOneTo MOST_WORKERS workers
 
 -- an option may be chosen: its number is in range, and `--workers` only where that is an option
 abbrev pub MayStand : Bool → Choice → Type 0
@@ -120,9 +121,9 @@ IsBounded (command.Run events brief workers) = IsBound events × AreWorkers work
 
 -- how many bytes a command reads at most: a program text has 1,048,576, a run text 67,108,864
 abbrev pub most_bytes : Command → ℕ
-most_bytes command.Check = 1048576
-most_bytes command.Replay = 67108864
-most_bytes (command.Run events brief workers) = 1048576
+most_bytes command.Check = MOST_PROGRAM_BYTES
+most_bytes command.Replay = MOST_RECORD_BYTES
+most_bytes (command.Run events brief workers) = MOST_PROGRAM_BYTES
 
 -- the words are those of the command that is told, or of none
 abbrev pub Commands : Bool → List (List ℕ) → Option Command → Type 0

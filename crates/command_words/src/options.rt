@@ -3,16 +3,11 @@ ghost use Rattle.std.specs.Prelude.{◌≡◌, ◌↔◌, ℕ, Bool, List, [], �
 ghost use Rattle.command_words.specs.Asking.{IsFromOneTo, MayStand, spelling, unnamed_workers, AreOptions};
 ghost use Rattle.command_words.specs.Seen.{IsSeen, IsAgain};
 
+use fut_base::limits::{MOST_ENTRIES, MOST_WORKERS};
 use itoa::Buffer;
 
 /// The greatest number of entries of a run whose words name none.
 const UNNAMED_EVENTS: u32 = 100_000;
-
-/// The greatest number of entries that can be named.
-const MOST_EVENTS: u32 = 1_000_000;
-
-/// The greatest number of workers that can be named.
-const MOST_WORKERS: u32 = 64;
 
 /// The number of workers of a run whose words name none.
 const UNNAMED_WORKERS: u32 = 4;
@@ -129,7 +124,7 @@ fn first_option(words: &[String], workers: bool) -> Option<(Choice, &[String])>
         return Some((Choice::Brief, more));
     }
     if let Some(rest) = behind(words, "--events") {
-        let (events, more) = first_number(rest, MOST_EVENTS)?;
+        let (events, more) = first_number(rest, MOST_ENTRIES)?;
         return Some((Choice::Events(events), more));
     }
     let rest = behind(words, "--workers")?;

@@ -1,6 +1,7 @@
 -- No path leaves a set of strands that is closed under the edges.
-use Rattle.std.proofs.Common.{◌≡◌, ℕ, Bool, true, false, List, [], ◌∷◌, inl, inr, sym, subst, refl}
+use Rattle.std.proofs.Common.{◌≡◌, ℕ, Bool, true, false, List, [], ◌∷◌, inl, inr, sym, subst}
 use Rattle.std.specs.Prelude.{not, ◌||◌, ◌&&◌, slice_get, Some}
+use Rattle.std.proofs.lemmas.Bool.{and_parts}
 use Rattle.fut_base.specs.Events.{Event}
 use Rattle.fut_base.specs.Dag.{Among, IsPath, ReachesBy, AreJoined}
 use Rattle.fut_base.specs.Racing.{PlacesRace}
@@ -10,14 +11,6 @@ abbrev pub is_closed : List (ℕ × ℕ) → (ℕ → Bool) → Bool
 is_closed [] p = true
 is_closed (e ∷ es) p = (not (p e.0) || p e.1) && is_closed es p
 
-and_left : (a b : Bool) → (a && b) ≡ true → a ≡ true
-and_left true b h = refl
-and_left false b h = h
-
-and_right : (a b : Bool) → (a && b) ≡ true → b ≡ true
-and_right true b h = h
-and_right false b h = cc
-
 imp : (a b : Bool) → (not a || b) ≡ true → a ≡ true → b ≡ true
 imp true b h at = h
 imp false b h at = cc
@@ -25,8 +18,8 @@ imp false b h at = cc
 ends_in : (es : List (ℕ × ℕ)) (p : ℕ → Bool) → is_closed es p ≡ true → (e : ℕ × ℕ) → Among e es → p e.0 ≡ true → p e.1 ≡ true
 ends_in [] p h e among at = absurd among
 ends_in (x ∷ es) p h e (inl same) at =
-    subst (λ (y : ℕ × ℕ). p y.0 ≡ true → p y.1 ≡ true) same (imp (p x.0) (p x.1) (and_left (not (p x.0) || p x.1) (is_closed es p) h)) at
-ends_in (x ∷ es) p h e (inr among) at = ends_in es p (and_right (not (p x.0) || p x.1) (is_closed es p) h) e among at
+    subst (λ (y : ℕ × ℕ). p y.0 ≡ true → p y.1 ≡ true) same (imp (p x.0) (p x.1) (and_parts (not (p x.0) || p x.1) (is_closed es p) h).0) at
+ends_in (x ∷ es) p h e (inr among) at = ends_in es p (and_parts (not (p x.0) || p x.1) (is_closed es p) h).1 e among at
 
 stays : (es : List (ℕ × ℕ)) (p : ℕ → Bool) → is_closed es p ≡ true → (path : List (ℕ × ℕ)) (u v : ℕ) → IsPath es path u v → p u ≡ true → p v ≡ true
 stays es p closed [] u v h at = subst (λ w. p w ≡ true) h at

@@ -1,9 +1,10 @@
 -- On sound lists each edge leads to a later strand.
-use Rattle.std.proofs.Common.{◌≡◌, ℕ, ◌+◌, ◌<◌, ◌≤◌, Bool, true, false, List, [], ◌∷◌, ◌++◌, ◌⊎◌, inl, inr, subst, ap, arith}
+use Rattle.std.proofs.Common.{◌≡◌, ℕ, ◌+◌, ◌<◌, ◌≤◌, Bool, true, false, List, [], ◌∷◌, inl, inr, subst, ap, arith}
 use Rattle.std.specs.Prelude.{Option, Some, None, ◌==◌, ◌&&◌, if◌then◌else◌, IfSome, option_map}
 use Rattle.std.specs.List.{cons_option}
 use Rattle.fut_base.specs.Events.{Event, Action, Reads, Writes, Spawns, Creates, Syncs, Gets, Ends}
 use Rattle.fut_base.specs.Dag.{edges_past, edges_by, joins, block_of, last_of, ends, Among, IsPath, ReachesBy}
+use Rattle.fut_base.proofs.Members.{among_split}
 use Rattle.fut_base.specs.Sound.{IsSoundPast, MayFollow, MayAct, current, current_by, next_strand, strands_by}
 
 -- where there is a strand, it is below n
@@ -43,6 +44,16 @@ last_below (e ∷ past) s t =
     let at : e.strand < next_strand past = stands_below past e s.0 s.1 in
     pick ((t == e.task) && ends e.action) (Some e.strand) (last_of past t) _ (omega arith) (below_more (last_of past t) _ _ (omega arith) (last_below past s.0 t))
 
+-- an action makes two strands at most
+pub strands_few : (a : Action) → strands_by a ≤ 2
+strands_few (Reads _ _) = omega arith
+strands_few (Writes _ _) = omega arith
+strands_few (Spawns _ _ _ _ _) = omega arith
+strands_few (Creates _ _ _ _ _) = omega arith
+strands_few (Syncs _) = omega arith
+strands_few (Gets _ _ _) = omega arith
+strands_few (Ends _) = omega arith
+
 -- each edge leads from a strand below n to one from n on and below m
 abbrev pub LeadsUp : ℕ → ℕ → List (ℕ × ℕ) → Type 0
 LeadsUp n m es = (a b : ℕ) → Among (a, b) es → (a < n) × (n ≤ b) × (b < m)
@@ -81,11 +92,6 @@ edges_by_up past s task from (Syncs strand) h lt =
 edges_by_up past s task from (Gets future _ strand) h lt =
     one_up _ _ from strand lt (omega (arith, h.0)) (omega (arith, h.0)) (joins past (future ∷ []) strand) (joins_up past s (future ∷ []) _ strand (omega (arith, h.0)) (omega (arith, h.0)))
 edges_by_up past s task from (Ends _) h lt = none_up _ _
-
-pub among_split : {X : Type 0} → (x : X) (xs ys : List X) → Among x (xs ++ ys) → Among x xs ⊎ Among x ys
-among_split x [] ys h = inr h
-among_split x (z ∷ xs) ys (inl same) = inl (inl same)
-among_split x (z ∷ xs) ys (inr h) = elim (among_split x xs ys h) [ inl l ↦ inl (inr l) | inr r ↦ inr r ]
 
 pub edges_rise : (past : List Event) → IsSoundPast past → (a b : ℕ) → Among (a, b) (edges_past past) → (a < b) × (b < next_strand past)
 edges_rise [] s a b among = absurd among

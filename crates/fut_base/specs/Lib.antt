@@ -1,3 +1,4 @@
+pub mod Bounds
 pub mod Dag
 pub mod Events
 pub mod Laws

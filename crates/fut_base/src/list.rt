@@ -110,6 +110,14 @@ impl<T> Listing<T> {
     {
         self.held.as_slice()
     }
+
+    /// All items in order, without the room for more.
+    pub fn into_vec(self) -> Vec<T>
+        ensures { result.items ≡ self.items }
+    {
+        let Listing { held, free: _ } = self;
+        held
+    }
 }
 
 impl<T: Copy> Listing<T> {

@@ -1,15 +1,11 @@
 -- The least of some faults is the first.
 use Rattle.std.proofs.Common.{◌≡◌, ℕ, ◌+◌, ◌*◌, ◌<◌, ◌≤◌, ◌≢◌, ◌⊎◌, inl, inr, Bool, true, false, cond, List, [], ◌∷◌, Some, None, refl, sym, ap, subst, arith}
 use Rattle.std.specs.Prelude.{◌||◌, ◌&&◌, nat_lt, nat_eq}
-use Rattle.std.proofs.lemmas.Bool.{ltb-true, ltb-false, eqb-true, eqb-false}
+use Rattle.std.proofs.lemmas.Bool.{ltb-true, ltb-false, eqb-true, eqb-false, cases_Bool}
 use Rattle.fut_rules.specs.declared.fault.Rule.{Rule}
 use Rattle.fut_rules.specs.declared.fault.Rule.TheVariants as rule
 use Rattle.fut_rules.specs.declared.fault.Fault.{Fault}
 use Rattle.fut_rules.specs.Faults.{rule_number, is_before, earlier, least, IsAmong, IsFirst}
-
-tested : (b : Bool) → (b ≡ true) ⊎ (b ≡ false)
-tested true = inl refl
-tested false = inr refl
 
 pub small : (r : Rule) → rule_number r ≤ 12
 small rule.UnknownName = omega arith
@@ -48,7 +44,7 @@ pub not_before : (f g : Fault) → is_before f g ≡ false → rank g ≤ rank f
 not_before f g h = unranked f.token g.token (rule_number f.rule) (rule_number g.rule) _ _ _ refl refl refl (small f.rule) (small g.rule) h
 
 in_order : (f g : Fault) → rank f ≤ rank g → is_before g f ≡ false
-in_order f g le = elim (tested (is_before g f)) [ inl h ↦ absurd (omega (arith, before g f h)) | inr h ↦ h ]
+in_order f g le = elim (cases_Bool (is_before g f)) [ inl h ↦ absurd (omega (arith, before g f h)) | inr h ↦ h ]
 
 earlier_is : (f x : Fault) (b : Bool) → is_before x f ≡ b → earlier (Some f) x ≡ cond b x f
 earlier_is f x b h = ap (λ c. cond c x f) h

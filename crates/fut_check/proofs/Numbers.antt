@@ -1,6 +1,9 @@
 -- The numbers of a text have 63 bits.
 use Rattle.std.proofs.Common.{◌≡◌, ℕ, zero, suc, Bool, true, false, ◌&&◌, List, [], ◌∷◌, refl, subst}
 use Rattle.std.specs.Prelude.{Option, Some, None, nat_le, nat_eq, bytes_eq, if◌then◌else◌}
+use Rattle.std.proofs.lemmas.Option.{same_Some}
+use Rattle.std.proofs.lemmas.Bool.{and_from}
+use Rattle.fut_base.proofs.Cases.{by_bool}
 use Rattle.fut_tokens.specs.declared.token.Token.{Token}
 use Rattle.fut_tokens.specs.declared.token.Token.TheVariants as t
 use Rattle.fut_tokens.specs.declared.kind.Mark.{Mark}
@@ -21,13 +24,6 @@ AreInRange (x ∷ xs) = (is_in_range x ≡ true) × AreInRange xs
 
 -- ---- tokens of a text
 
-by_test : (P : Bool → Type 0) (b : Bool) → (b ≡ true → P true) → (b ≡ false → P false) → P b
-by_test P true t f = t refl
-by_test P false t f = f refl
-
-some_same : {X : Type 0} (x y : X) → Some x ≡ Some y → x ≡ y
-some_same x y h = cc
-
 none_some : {X : Type 0} (x : X) → None ≡ Some x → ⊥
 none_some x h = cc
 
@@ -39,8 +35,8 @@ EachEntry P (e ∷ table) = P e.1 × EachEntry P table
 found_in : {K A : Type 0} (P : A → Type 0) (test : K → Bool) (table : List (K × A)) (x : A) → EachEntry P table → look_up test table ≡ Some x → P x
 found_in P test [] x h e = absurd (none_some x e)
 found_in P test (k ∷ table) x h e =
-    by_test (λ b. (if b then Some k.1 else look_up test table) ≡ Some x → P x) (test k.0)
-    (λ t i. subst P (some_same k.1 x i) h.0) (λ f i. found_in P test table x h.1 i) e
+    by_bool (λ b. (if b then Some k.1 else look_up test table) ≡ Some x → P x) (test k.0)
+    (λ t i. subst P (same_Some k.1 x i) h.0) (λ f i. found_in P test table x h.1 i) e
 
 abbrev IsGood : Token → Type 0
 IsGood x = is_in_range x ≡ true
@@ -59,7 +55,7 @@ mark_good b m e =
     found_in IsGoodMark (nat_eq b) symbols m (refl, (refl, (refl, (refl, (refl, (refl, (refl, (refl, (refl, ((refl, refl), (refl, (refl, (refl, (refl, (refl, (refl, (refl, ((refl, refl), ((refl, refl), ((refl, refl), tt)))))))))))))))))))) e
 
 plain_good : (w : List ℕ) → IsGood (plain_word w)
-plain_good w = by_test (λ b. IsGood (if b then t.Word w else t.Scrap)) (nat_le _ 32) (λ t. refl) (λ f. refl)
+plain_good w = by_bool (λ b. IsGood (if b then t.Word w else t.Scrap)) (nat_le _ 32) (λ t. refl) (λ f. refl)
 
 word_good : (w : List ℕ) → IsGood (word_token w)
 word_good w = by (keyword_of w) refl
@@ -70,11 +66,11 @@ word_good w = by (keyword_of w) refl
 
 number_good : (ds : List ℕ) → IsGood (number_token ds)
 number_good ds =
-    by_test (λ b. IsGood (if b then t.Scrap else in_range (value_from 0 ds))) (has_leading_zero ds) (λ t. refl)
+    by_bool (λ b. IsGood (if b then t.Scrap else in_range (value_from 0 ds))) (has_leading_zero ds) (λ t. refl)
     (λ f. ranged (value_from 0 ds))
   where
     ranged : (n : ℕ) → IsGood (in_range n)
-    ranged n = by_test (λ b. nat_le n 9223372036854775807 ≡ b → IsGood (if b then t.Number n else t.Scrap)) (nat_le n 9223372036854775807) (λ t e. e) (λ f e. refl) refl
+    ranged n = by_bool (λ b. nat_le n 9223372036854775807 ≡ b → IsGood (if b then t.Number n else t.Scrap)) (nat_le n 9223372036854775807) (λ t e. e) (λ f e. refl) refl
 
 abbrev IsGoodClass : Class → Type 0
 IsGoodClass (Other (Some m)) = IsGoodMark m
@@ -82,27 +78,27 @@ IsGoodClass _ = Unit {0}
 
 class_good : (b : ℕ) → IsGoodClass (class_of b)
 class_good b =
-    by_test (λ c. IsGoodClass (if c then Letter else (if is_digit b then Digit else (if is_blank b then Blank else Other (mark_of b))))) (is_letter b) (λ t. tt)
-    (λ f. by_test (λ c. IsGoodClass (if c then Digit else (if is_blank b then Blank else Other (mark_of b)))) (is_digit b) (λ t. tt)
-    (λ f. by_test (λ c. IsGoodClass (if c then Blank else Other (mark_of b))) (is_blank b) (λ t. tt) (λ f. other (mark_of b) refl)))
+    by_bool (λ c. IsGoodClass (if c then Letter else (if is_digit b then Digit else (if is_blank b then Blank else Other (mark_of b))))) (is_letter b) (λ t. tt)
+    (λ f. by_bool (λ c. IsGoodClass (if c then Digit else (if is_blank b then Blank else Other (mark_of b)))) (is_digit b) (λ t. tt)
+    (λ f. by_bool (λ c. IsGoodClass (if c then Blank else Other (mark_of b))) (is_blank b) (λ t. tt) (λ f. other (mark_of b) refl)))
   where
     other : (o : Option Mark) → mark_of b ≡ o → IsGoodClass (Other o)
     other None e = tt
     other (Some m) e = mark_good b m e
 
 if_some : (c : Bool) (y x : Token) → (if c then Some y else None) ≡ Some x → y ≡ x
-if_some true y x e = some_same y x e
+if_some true y x e = same_Some y x e
 if_some false y x e = absurd (none_some x e)
 
 token_good : (k : Class) (b : ℕ) (bs : List ℕ) (x : Token) → IsGoodClass k → token_by k b bs ≡ Some x → IsGood x
 token_good Letter b bs x g e = subst IsGood (if_some (each is_word bs) (word_token (b ∷ bs)) x e) (word_good (b ∷ bs))
 token_good Digit b bs x g e = subst IsGood (if_some (each is_digit bs) (number_token (b ∷ bs)) x e) (number_good (b ∷ bs))
 token_good Blank b bs x g e = absurd (none_some x e)
-token_good (Other None) b [] x g e = subst IsGood (some_same t.Scrap x e) refl
+token_good (Other None) b [] x g e = subst IsGood (same_Some t.Scrap x e) refl
 token_good (Other None) b (c ∷ bs) x g e = absurd (none_some x e)
-token_good (Other (Some (Lone y))) b [] x g e = subst IsGood (some_same y x e) g
+token_good (Other (Some (Lone y))) b [] x g e = subst IsGood (same_Some y x e) g
 token_good (Other (Some (Lone y))) b (c ∷ bs) x g e = absurd (none_some x e)
-token_good (Other (Some (Paired y z))) b [] x g e = subst IsGood (some_same y x e) g.0
+token_good (Other (Some (Paired y z))) b [] x g e = subst IsGood (same_Some y x e) g.0
 token_good (Other (Some (Paired y z))) b (c ∷ []) x g e = subst IsGood (if_some (nat_eq c 61) z x e) g.1
 token_good (Other (Some (Paired y z))) b (c ∷ d ∷ bs) x g e = absurd (none_some x e)
 
@@ -117,9 +113,6 @@ cut_in_range (Comment c ∷ ps) bytes (rest, is, fits, cut) = cut_in_range ps re
 cut_in_range (Lexeme bs x ∷ ps) bytes (rest, is, fits, cut) = (lexeme_good bs x fits.0, cut_in_range ps rest cut)
 
 -- ---- trees of such tokens
-
-both : (a b : Bool) → a ≡ true → b ≡ true → (a && b) ≡ true
-both a b x y = cc
 
 -- a part fits, and what stands behind it is in range
 abbrev Fits : Bool → List Token → Type 0
@@ -136,7 +129,7 @@ mutual
   fit_expr (Pair x o y) r h =
       let a = fit_operand x (op_token o ∷ operand_before y r) h in
       let b = fit_operand y r a.1.1 in
-      (both (operand_fits x) (operand_fits y) a.0 b.0, b.1)
+      (and_from (operand_fits x) (operand_fits y) a.0 b.0, b.1)
 
   fit_operand : (x : Operand) (r : List Token) → AreInRange (operand_before x r) → Fits (operand_fits x) r
   fit_operand (Signed s p) r h = fit_primary p r (sign_behind s (primary_before p r) h)
@@ -151,14 +144,14 @@ fit_more [] r h = (refl, h.1)
 fit_more (e ∷ es) r h =
     let a = fit_expr e (more_before es r) h.1 in
     let b = fit_more es r a.1 in
-    (both (expr_fits e) (each_fits es) a.0 b.0, b.1)
+    (and_from (expr_fits e) (each_fits es) a.0 b.0, b.1)
 
 fit_args : (es : List Expr) (r : List Token) → AreInRange (args_before es r) → Fits (each_fits es) r
 fit_args [] r h = (refl, h.1)
 fit_args (e ∷ es) r h =
     let a = fit_expr e (more_before es r) h in
     let b = fit_more es r a.1 in
-    (both (expr_fits e) (each_fits es) a.0 b.0, b.1)
+    (and_from (expr_fits e) (each_fits es) a.0 b.0, b.1)
 
 fit_init : (i : Init) (r : List Token) → AreInRange (init_before i r) → Fits (init_fits i) r
 fit_init (GetOf w) r h = (refl, h.1.1)
@@ -182,18 +175,18 @@ mutual
   fit_stmt (Store w e f) r h =
       let a = fit_expr e (t.RightSquare ∷ t.Equals ∷ expr_before f (t.Semicolon ∷ r)) h.1.1 in
       let b = fit_expr f (t.Semicolon ∷ r) a.1.1.1 in
-      (both (expr_fits e) (expr_fits f) a.0 b.0, b.1.1)
+      (and_from (expr_fits e) (expr_fits f) a.0 b.0, b.1.1)
   fit_stmt (SpawnOf w es) r h = (let a = fit_args es (t.Semicolon ∷ r) h.1.1.1 in (a.0, a.1.1))
   fit_stmt SyncAll r h = (refl, h.1.1)
   fit_stmt (If' e b o) r h =
       let a = fit_expr e (t.LeftBrace ∷ block_before b (tail_before o r)) h.1 in
       let k = fit_block b (tail_before o r) a.1.1 in
       let l = fit_tail o r k.1 in
-      (both (expr_fits e && block_fits b) (tail_fits o) (both (expr_fits e) (block_fits b) a.0 k.0) l.0, l.1)
+      (and_from (expr_fits e && block_fits b) (tail_fits o) (and_from (expr_fits e) (block_fits b) a.0 k.0) l.0, l.1)
   fit_stmt (While' e b) r h =
       let a = fit_expr e (t.LeftBrace ∷ block_before b r) h.1 in
       let k = fit_block b r a.1.1 in
-      (both (expr_fits e) (block_fits b) a.0 k.0, k.1)
+      (and_from (expr_fits e) (block_fits b) a.0 k.0, k.1)
   fit_stmt (Return' e) r h = (let a = fit_expr e (t.Semicolon ∷ r) h.1 in (a.0, a.1.1))
 
   fit_block : (b : Block) (r : List Token) → AreInRange (block_before b r) → Fits (block_fits b) r
@@ -201,7 +194,7 @@ mutual
   fit_block (Then s b) r h =
       let a = fit_stmt s (block_before b r) h in
       let k = fit_block b r a.1 in
-      (both (stmt_fits s) (block_fits b) a.0 k.0, k.1)
+      (and_from (stmt_fits s) (block_fits b) a.0 k.0, k.1)
 
   fit_tail : (o : Tail) (r : List Token) → AreInRange (tail_before o r) → Fits (tail_fits o) r
   fit_tail NoElse r h = (refl, h)
@@ -224,7 +217,7 @@ fit_items (CellsOf w n ∷ is) r h = fit_items is r h.1.1.1.1.1.1
 fit_items (TaskOf w ps d b ∷ is) r h =
     let body = t.LeftBrace ∷ block_before b (items_before is r) in
     let a = fit_block b (items_before is r) (type_behind d body (params_behind ps (type_before d body) h.1.1.1)).1 in
-    both (block_fits b) (items_fit is) a.0 (fit_items is r a.1)
+    and_from (block_fits b) (items_fit is) a.0 (fit_items is r a.1)
 
 pub fit_program : (P : Program) → AreInRange (program_tokens P) → numbers_fit P ≡ true
 fit_program P h = fit_items (P.first ∷ P.others) [] h

@@ -1,6 +1,7 @@
 -- Faults have one first fault.
-use Rattle.std.proofs.Common.{◌≡◌, ℕ, ◌+◌, ◌*◌, ◌≤◌, List, Some, refl, sym, ap, ◌∙◌, subst, arith}
+use Rattle.std.proofs.Common.{◌≡◌, ℕ, ◌+◌, ◌*◌, ◌≤◌, List, refl, sym, ap, ◌∙◌, subst, arith}
 use Rattle.std.specs.Prelude.{nat_eq, if◌then◌else◌, slice_get, IsSomeAnd}
+use Rattle.std.proofs.lemmas.Option.{same_Some}
 use Rattle.fut_tokens.specs.declared.token.Place.{Place}
 use Rattle.fut_syntax.specs.declared.tree.Program as declared
 use Rattle.fut_syntax.specs.Trees.{Program}
@@ -54,19 +55,13 @@ one_first fs f g a b =
     let make : ℕ → Rule → Fault = λ n r. record { token = n; rule = r } in
     ap (λ n. make n f.rule) token ∙ ap (λ r. make g.token r) same
 
-same_tree : (P Q : Program) → Some P ≡ Some Q → P ≡ Q
-same_tree P Q h = cc
-
-same_place : (p q : Place) → Some p ≡ Some q → p ≡ q
-same_place p q h = cc
-
 pub one_fault : (p : declared.Program) (n m : ℕ) (a b : Place) → IsFaultOf p n a → IsFaultOf p m b → (n ≡ m) × (a ≡ b)
 one_fault p n m a b x y =
-    let tree = same_tree x.tree y.tree (sym x.is ∙ y.is) in
+    let tree = same_Some x.tree y.tree (sym x.is ∙ y.is) in
     let first : IsFirst x.fault (faults_of y.tree) = subst (λ (t : Program). IsFirst x.fault (faults_of t)) tree x.first in
     let same = one_first (faults_of y.tree) x.fault y.fault first y.first in (
       x.rule ∙ ap (λ (f : Fault). rule_number f.rule) same ∙ sym y.rule,
-      same_place a b (sym x.stands ∙ ap (λ (f : Fault). slice_get p.places f.token) same ∙ y.stands),
+      same_Some a b (sym x.stands ∙ ap (λ (f : Fault). slice_get p.places f.token) same ∙ y.stands),
     )
 
 pub no_fault : (p : declared.Program) (n : ℕ) (a : Place) → IsChecked p → IsFaultOf p n a → ⊥

@@ -6,6 +6,7 @@ use Rattle.fut_base.specs.declared.record.Race.{Race}
 use Rattle.fut_base.specs.declared.record.Finish.{Finish}
 use Rattle.fut_base.specs.declared.record.Finish.TheVariants as finish
 use Rattle.fut_base.specs.Racing.{IsReport}
+use Rattle.fut_base.specs.declared.limits.TheConstants.{MOST_ENTRIES, MOST_PROGRAM_BYTES}
 use Rattle.fut_syntax.specs.Trees as tree
 use Rattle.fut_syntax.specs.declared.tree.Program as declared
 use Rattle.fut_tokens.specs.declared.token.Place.{Place}
@@ -14,7 +15,8 @@ use Rattle.fut_syntax.specs.Texts.{Parses, IsProgram}
 use Rattle.fut_check.specs.Checks.{HasPlaces, IsFaultOf}
 use Rattle.fut_check.specs.Items.{IsWellTyped}
 use Rattle.task_code.specs.Flat.{Compiled, IsCodeOf}
-use Rattle.run_record.specs.Records.{AreNumbered, IsFault, IsFinish}
+use Rattle.fut_base.specs.Bounds.{AreNumbered, IsFinish}
+use Rattle.run_record.specs.Records.{IsFault}
 use Rattle.run_replay.specs.Serials.{IsSerialRun}
 use Rattle.fut_engine.specs.Runs.{IsRun}
 use Rattle.run_check.specs.Checks.{IsAccepted}
@@ -75,11 +77,11 @@ says (finish.Futures t) races = (refl, not_whole_futures t)
 accepted_run : (P : tree.Program) (workers bound : ℕ) (h : List Event) (races : List Race) (end : Finish) (cells : List ℤ) → IsRunOf P workers bound h end races cells → IsAccepted P h races end
 accepted_run P workers bound h races end cells r = record { legal = (r.run.machine, r.run.leads); those = (r.report, r.run.holds) }
 
-pub ran_as : (P : tree.Program) (workers bound : ℕ) (brief : Bool) (text : List ℕ) (s : Status) (h : List Event) (made : List ℕ) (code : Compiled) (races : List Race) (end : Finish) (cells : List ℤ) → s ≡ ending_of end races → IsRun P (limits_of bound) h end cells → (workers ≡ 1 → IsSerialRun P (limits_of bound) h end cells) → IsReport h races → made ≡ run_due brief text code.arrays h races end cells → IsCodeOf P code → IsWellTyped P → IsBound bound → length text ≤ 1048576 → AreNumbered h → IsFinish end → RanAs P workers bound brief text s h made
+pub ran_as : (P : tree.Program) (workers bound : ℕ) (brief : Bool) (text : List ℕ) (s : Status) (h : List Event) (made : List ℕ) (code : Compiled) (races : List Race) (end : Finish) (cells : List ℤ) → s ≡ ending_of end races → IsRun P (limits_of bound) h end cells → (workers ≡ 1 → IsSerialRun P (limits_of bound) h end cells) → IsReport h races → made ≡ run_due brief text code.arrays h races end cells → IsCodeOf P code → IsWellTyped P → IsBound bound → length text ≤ MOST_PROGRAM_BYTES → AreNumbered h → IsFinish end → RanAs P workers bound brief text s h made
 ran_as P workers bound brief text s h made code races end cells is run serial report due of typed bounded short numbered finished =
     let ran : IsRunOf P workers bound h end races cells = record { run = run; serial = serial; report = report } in
     let few : length h ≤ bound = run.few in
-    let most : bound ≤ 1000000 = bounded.1 in
+    let most : bound ≤ MOST_ENTRIES = bounded.1 in
     let within = accepted_are_within P text h races end typed (accepted_run P workers bound h races end cells ran) short (omega arith) numbered finished in
     record {
       races = races;

@@ -23,6 +23,7 @@ use Rattle.command_words.specs.Asking.{AreWorkers, IsBound}
 use Rattle.task_code.specs.Flat.{IsCodeOf}
 use Rattle.fut_base.specs.Events.{events_of}
 use Rattle.fut_base.specs.Ports.{Writes}
+use Rattle.fut_base.specs.declared.limits.TheConstants.{MOST_PROGRAM_BYTES}
 use Rattle.fut_base.specs.declared.ports.Wrote.TheVariants as wrote
 use Rattle.fut_driver.specs.declared.job.Job.{Job}
 use Rattle.fut_driver.specs.declared.job.Prepared.{Prepared}
@@ -76,7 +77,7 @@ pub record RanAs (P : tree.Program) (workers bound : ℕ) (brief : Bool) (text :
 pub record IsJob (P : tree.Program) (job : Job) : Type 0 where
   pub typed : IsWellTypedText job.text.items P
   pub code_is : IsCodeOf P job.code
-  pub short : length job.text.items ≤ 1048576
+  pub short : length job.text.items ≤ MOST_PROGRAM_BYTES
   pub bounded : IsBound job.events
   pub workers : AreWorkers job.workers
   pub several : job.workers ≢ 1

@@ -8,6 +8,7 @@ use Rattle.fut_base.specs.declared.record.Limits.{Limits}
 use Rattle.fut_base.specs.declared.record.Finish.TheVariants as finish
 use Rattle.fut_base.specs.Ports.{Rose, AppendsPart}
 use Rattle.fut_base.specs.Racing.{IsReport}
+use Rattle.fut_base.specs.declared.limits.TheConstants.{MOST_CREATES, MOST_LOCAL_STEPS}
 use Rattle.fut_tokens.specs.declared.token.Place.{Place}
 use Rattle.fut_tokens.specs.declared.token.Token.{Token}
 use Rattle.fut_syntax.specs.Trees as tree
@@ -74,7 +75,7 @@ IsPrinted bytes printed = (P : tree.Program) × IsWellTypedText bytes P × (prin
 
 -- the limits of a run of so many entries
 abbrev pub limits_of : ℕ → Limits
-limits_of bound = record { events = bound; local_steps = 1000000; futures = 4096 }
+limits_of bound = record { events = bound; local_steps = MOST_LOCAL_STEPS; futures = MOST_CREATES }
 
 -- a history is a run of a program up to so many entries, the serial one where there is one worker, which ended so with these
 -- values in its cells, and these are its races

@@ -16,22 +16,17 @@ use crate::run::{check_text, run_text};
 use crate::status::Status;
 use command_words::reading::reads_as;
 use command_words::words::{Command, Words};
+use fut_base::limits::{MOST_PROGRAM_BYTES, MOST_RECORD_BYTES};
 use fut_base::ports::Source;
 use std::alloc::Global;
-
-/// The greatest length of a program text, in bytes.
-const LONGEST: usize = 1_048_576;
-
-/// The greatest length of a run text, in bytes.
-const LONGEST_RECORD: usize = 67_108_864;
 
 /// The greatest length of the text that a command reads, in bytes.
 fn longest(command: Command) -> usize
     ensures { result ≡ most_bytes command }
 {
     match command {
-        Command::Replay => LONGEST_RECORD,
-        Command::Check | Command::Run { .. } => LONGEST,
+        Command::Replay => MOST_RECORD_BYTES as usize,
+        Command::Check | Command::Run { .. } => MOST_PROGRAM_BYTES as usize,
     }
 }
 

@@ -2,6 +2,7 @@
 ghost use Rattle.std.specs.Prelude.{◌≡◌, ◌≤◌, ℕ, length, IfOk};
 ghost use Rattle.fut_base.specs.Events.{events_of};
 ghost use Rattle.fut_base.specs.Racing.{IsReport};
+ghost use Rattle.fut_base.specs.declared.limits.TheConstants.{MOST_PROGRAM_BYTES};
 ghost use Rattle.fut_syntax.specs.Trees as tree;
 ghost use Rattle.task_code.specs.Flat.{IsCodeOf};
 ghost use Rattle.fut_check.specs.Items.{IsWellTyped};
@@ -18,25 +19,20 @@ use crate::job::{Job, Prepared};
 use crate::outcome::{Outcome, ending};
 use crate::program::{code_for, printed};
 use crate::status::Status;
+use fut_base::bounds::{finish_has_bounds, history_has_bounds};
+use fut_base::limits::{MOST_CREATES, MOST_LOCAL_STEPS};
 use fut_base::list::NoMemory;
 use fut_base::ports::Wrote;
 use fut_base::record::{Limits, Ran};
 use race_report::write_brief;
-use run_check::numbers::{finish_has_bounds, history_has_bounds};
 use run_record::run_text::write_run;
 use run_replay::serial::serial;
 use std::alloc::Global;
 use task_code::code::Code;
 
-/// The greatest number of local steps of a task in a row.
-const MOST_STEPS: u32 = 1_000_000;
-
-/// The greatest number of futures that a run creates.
-const MOST_FUTURES: u32 = 4096;
-
 /// What comes of a program text that is to be printed.
 pub fn check_text(alloc: Global, text: &[u8]) -> Outcome
-    requires { length text.now ≤ 1048576 }
+    requires { length text.now ≤ MOST_PROGRAM_BYTES }
     ensures { IsOutcome command.Check text.now result.status (events_of result.history) result.text.items }
 {
     match printed(alloc, text) {
@@ -53,7 +49,7 @@ pub fn check_text(alloc: Global, text: &[u8]) -> Outcome
 
 /// What comes of a program text that is to be run up to a number of entries: on one worker its serial run, on more a run that is due.
 pub fn run_text(alloc: Global, text: Vec<u8>, events: u32, brief: bool, workers: u32) -> Prepared
-    requires short { length text.items ≤ 1048576 }
+    requires short { length text.items ≤ MOST_PROGRAM_BYTES }
     requires bounded { IsBound events }
     requires workers { AreWorkers workers }
     ensures { IsPrepared (command.Run events brief workers) text.items result }
@@ -83,8 +79,8 @@ pub fn limits(bound: u32) -> Limits
 {
     Limits {
         events: bound,
-        local_steps: MOST_STEPS,
-        futures: MOST_FUTURES,
+        local_steps: MOST_LOCAL_STEPS,
+        futures: MOST_CREATES,
     }
 }
 
@@ -96,7 +92,7 @@ fn run_code(
     events: u32,
     brief: bool,
 ) -> Result<Outcome, NoMemory>
-    requires short { length text.now ≤ 1048576 }
+    requires short { length text.now ≤ MOST_PROGRAM_BYTES }
     requires program { (P : tree.Program) × IsWellTyped P × IsCodeOf P code.now }
     requires bounded { IsBound events }
     ensures { IfOk result (λ o. (P : tree.Program) → IsWellTyped P → IsCodeOf P code.now → RanAs P 1 events brief text.now o.status (events_of o.history) o.text.items) }
@@ -115,7 +111,7 @@ pub fn outcome_of_run(
     events: u32,
     brief: bool,
 ) -> Result<Outcome, NoMemory>
-    requires short { length text.now ≤ 1048576 }
+    requires short { length text.now ≤ MOST_PROGRAM_BYTES }
     requires bounded { IsBound events }
     requires races { IsReport (events_of ran.history) ran.races.items }
     ensures { IfOk result (λ o. (P : tree.Program) (workers : ℕ) → IsWellTyped P → IsCodeOf P code.now

@@ -1,6 +1,8 @@
 -- Tokens with an end token have a tree or a fault.
 use Rattle.std.proofs.Common.{◌≡◌, ℕ, Bool, true, false, List, [], ◌∷◌, ◌++◌, ◌⊎◌, inl, inr, refl, sym, subst, ap, ◌∙◌, append-nil, length}
 use Rattle.std.specs.Prelude.{Option, Some, None, ◌&&◌}
+use Rattle.std.proofs.lemmas.Option.{same_Some}
+use Rattle.std.proofs.lemmas.Bool.{and_parts}
 use Rattle.fut_tokens.specs.declared.token.Token.{Token}
 use Rattle.fut_tokens.specs.declared.token.Token.TheVariants as t
 use Rattle.fut_syntax.specs.Trees.{Program}
@@ -28,17 +30,9 @@ abbrev IsDue : List Symbol → Type 0
 IsDue [] = ⊥
 IsDue (a ∷ k) = ((is_inner a ≡ true) × IsDue k) ⊎ ((is_inner a ≡ false) × (k ≡ []))
 
-and_left : (a b : Bool) → (a && b) ≡ true → a ≡ true
-and_left true b e = refl
-and_left false b e = absurd (cc)
-
-and_right : (a b : Bool) → (a && b) ≡ true → b ≡ true
-and_right true b e = e
-and_right false b e = absurd (cc)
-
 due_behind : (s k : List Symbol) → all_inner s ≡ true → IsDue k → IsDue (s ++ k)
 due_behind [] k e due = due
-due_behind (a ∷ s) k e due = inl (and_left (is_inner a) (all_inner s) e, due_behind s k (and_right (is_inner a) (all_inner s) e) due)
+due_behind (a ∷ s) k e due = inl ((and_parts (is_inner a) (all_inner s) e).0, due_behind s k (and_parts (is_inner a) (all_inner s) e).1 due)
 
 -- a part of an item takes no end token and leaves parts of an item
 abbrev keeps_inside : Bool → Answer → Bool
@@ -135,11 +129,8 @@ outer More t.Task h = first_outer t.Task
 outer More _ h = tt
 outer _ x h = absurd (cc)
 
-some_is : (m s : List Symbol) → Some m ≡ Some s → m ≡ s
-some_is m s e = cc
-
 after_outer : (s : List Symbol) (x : Token) (answer : Answer) (passed : Option (List Symbol)) → IsOuter x answer → by_answer answer [] passed ≡ Some s → IsAfter x s
-after_outer s x (Takes m) passed o h = let same : m ≡ s = sym (append-nil m) ∙ some_is (m ++ []) s h in subst (λ (z : List Symbol). IsAfter x z) same o
+after_outer s x (Takes m) passed o h = let same : m ≡ s = sym (append-nil m) ∙ same_Some (m ++ []) s h in subst (λ (z : List Symbol). IsAfter x z) same o
 after_outer s x Passes passed o h = absurd o
 after_outer s x Stops passed o h = absurd (cc)
 
@@ -161,7 +152,7 @@ last_or_more : (x : Token) (xs : List Token) (m s' : List Symbol) → ((is_end x
 last_or_more x xs m s' (inl h) step w ih =
     let none : m ≡ [] = step.0 h.0 in
     let last : walk m [] ≡ Some s' = subst (λ (q : List Token). walk m q ≡ Some s') h.1 w in
-    sym (some_is m s' last) ∙ none
+    sym (same_Some m s' last) ∙ none
 last_or_more x xs m s' (inr h) step w ih = ih h.1 (step.1 h.0)
 
 -- behind the end token nothing is due

@@ -1,8 +1,9 @@
 -- A text is cut part by part.
-use Rattle.std.proofs.Common.{◌≡◌, ℕ, suc, ◌+◌, ◌≤◌, Bool, true, false, List, [], ◌∷◌, ◌++◌, length, take, drop, refl, sym, subst, ap, ◌∙◌, append_assoc}
+use Rattle.std.proofs.Common.{◌≡◌, ℕ, suc, ◌+◌, ◌≤◌, Bool, false, List, [], ◌∷◌, ◌++◌, length, take, drop, refl, sym, subst, ap, ◌∙◌, append_assoc}
 use Rattle.std.specs.Prelude.{◌||◌}
 use Rattle.std.proofs.lemmas.List.{take-append-drop, drop-drop, drop_all}
 use Rattle.std.proofs.Math.Seq.{take-add}
+use Rattle.std.proofs.Math.Bool.{or_assoc, or-false}
 use Rattle.fut_tokens.specs.declared.token.Token.{Token}
 use Rattle.fut_tokens.specs.declared.token.Token.TheVariants as t
 use Rattle.fut_tokens.specs.declared.token.Place.{Place}
@@ -48,14 +49,6 @@ comment_on part.Space p ps s = ap (λ q. has_comment (q ∷ ps)) s.1
 comment_on part.Comment p ps s = ap (λ q. has_comment (q ∷ ps)) s.1
 comment_on (part.Lexeme x) p ps s = ap (λ q. has_comment (q ∷ ps)) s.1
 
-or_assoc : (a b c : Bool) → (a || (b || c)) ≡ ((a || b) || c)
-or_assoc true b c = refl
-or_assoc false b c = refl
-
-or_false : (a : Bool) → (a || false) ≡ a
-or_false true = refl
-or_false false = refl
-
 -- one part more
 pub begun_on : (text : List ℕ) (at n : ℕ) (x : Part) (place : Place) (tokens tokens' : List Token) (places places' : List Place) (comments comments' : Bool) → IsPart (drop at text) x n → IsBegun text at tokens places comments → place ≡ place_after (take at text) → tokens' ≡ tokens ++ tokens_in x → places' ≡ places ++ places_in place x → comments' ≡ (comments || is_comment x) → IsBegun text (at + n) tokens' places' comments'
 begun_on text at n x place tokens tokens' places places' comments comments' p b e et ep ec = record {
@@ -75,7 +68,7 @@ begun_on text at n x place tokens tokens' places places' comments comments' p b 
   told = λ ps c qs d.
       b.told (p.piece ∷ ps) (cut_on text at n p.piece ps p.bytes p.fits c) qs d
       ∙ ap (λ q. comments || q) (comment_on x p.piece ps p.sort)
-      ∙ or_assoc comments (is_comment x) (has_comment ps)
+      ∙ sym (or_assoc comments (is_comment x) (has_comment ps))
       ∙ ap (λ q. q || has_comment ps) (sym ec);
 }
 
@@ -109,5 +102,5 @@ begun_end text at place tokens tokens' places places' comments comments' past b 
       of = of;
       ends = tokens_end text tokens' places' of;
       paired = ap length of.stand ∙ same_length [] of.pieces ∙ ap length (sym of.are);
-      told = λ qs d. b.told [] (drop_all at text past) qs d ∙ or_false comments ∙ sym ec;
+      told = λ qs d. b.told [] (drop_all at text past) qs d ∙ or-false comments ∙ sym ec;
     }

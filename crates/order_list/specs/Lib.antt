@@ -1,4 +1,5 @@
 pub mod Chain
+pub mod Frames
 pub mod Labels
 pub mod Ordered
 pub mod Sides

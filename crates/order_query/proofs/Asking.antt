@@ -1,5 +1,5 @@
 -- What the labels of one moment say.
-use Rattle.std.proofs.Common.{◌≡◌, ℕ, ◌%◌, ◌<◌, true, List, [], ◌++◌, inl, inr, map, sym, ◌∙◌, subst, refl, ap, arith}
+use Rattle.std.proofs.Common.{◌≡◌, ℕ, ◌%◌, ◌<◌, true, List, [], ◌++◌, inl, inr, map, sym, ◌∙◌, subst, refl, ap, arith, append_assoc}
 use Rattle.std.specs.Prelude.{◌==◌, nat_lt, slice_index}
 use Rattle.std.proofs.lemmas.Bool.Decides.{nat_tests}
 use Rattle.std.proofs.lemmas.List.{map-append, length-map}
@@ -13,9 +13,18 @@ use Rattle.order_query.specs.declared.view.Snapshot.{Snapshot}
 use Rattle.order_query.specs.declared.view.View.{View}
 use Rattle.order_query.specs.Logs.{IsLog, AreEarlier, StartsWith, StrictlyRise, english_of, hebrew_of, order_of, english_word, hebrew_word, count_of}
 use Rattle.order_query.specs.Plays.{snapshot_after, after_version, after_label, IsMoment}
-use Rattle.order_query.specs.Reading.{AreSidesFrom}
+use Rattle.order_query.specs.Reading.{Reading, HasOnlyLoaded, AreSidesFrom}
 use Rattle.order_query.proofs.Growing.{TellOrder, told, orders_stay}
 use Rattle.order_query.proofs.Rising.{rising_tell}
+
+-- a reader that was asked again
+pub loaded_again : {r s t : Reading} → HasOnlyLoaded r s → HasOnlyLoaded s t → HasOnlyLoaded r t
+loaded_again {r = r} a b =
+    record {
+      loads = (a.loads.0 ++ b.loads.0, b.loads.1 ∙ ap (λ l. l ++ b.loads.0) a.loads.1 ∙ append_assoc r.loaded a.loads.0 b.loads.0);
+      log = b.log ∙ a.log;
+      home = b.home ∙ a.home;
+    }
 
 pub version_taken : (snapshot : Snapshot) (n : ℕ) → n % 2 ≡ 0 → (snapshot_after snapshot n).version ≡ n
 version_taken snapshot n even =

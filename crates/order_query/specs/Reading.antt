@@ -1,10 +1,12 @@
 -- What contracts see of a reader and of the writer.
-use Rattle.std.specs.Prelude.{◌≡◌, ℕ, ◌+◌, ◌*◌, ◌%◌, ◌^◌, ◌≤◌, ◌<◌, true, false, List, [], length, slice_index}
+use Rattle.std.specs.Prelude.{◌≡◌, ◌≢◌, ℕ, ◌+◌, ◌*◌, ◌%◌, ◌^◌, ◌≤◌, ◌<◌, true, false, List, [], ◌∷◌, ◌++◌, length, slice_index}
 use Rattle.atomic_table.specs.Table.{Me}
 use Rattle.atomic_table.specs.Seated.{TableId}
 use Rattle.order_list.specs.declared.judge.Sides.{Sides}
+use Rattle.order_list.specs.declared.place.Place.TheVariants.{Relabel}
 use Rattle.order_list.specs.Ordered.{Ordered}
-use Rattle.order_list.specs.Sides.{Lists, AreSides}
+use Rattle.order_list.specs.Labels.{place_of, HasInserted}
+use Rattle.order_list.specs.Sides.{Lists, AreSides, AreKept}
 use Rattle.order_query.specs.declared.view.Insert.{Insert}
 use Rattle.order_query.specs.declared.view.View.{View}
 use Rattle.order_query.specs.Logs.{IsLog, StartsWith, english_of, hebrew_of, english_word, hebrew_word}
@@ -14,6 +16,12 @@ pub record Reading : Type 0 where
   pub log : List Insert
   pub loaded : List ℕ
   pub home : TableId
+
+-- a reader is as before, but for what it loaded, which was added at the end
+pub record HasOnlyLoaded (old new : Reading) : Type 0 where
+  pub loads : (more : List ℕ) × (new.loaded ≡ old.loaded ++ more)
+  pub log : new.log ≡ old.log
+  pub home : new.home ≡ old.home
 
 -- these sides tell how x and y stand in both lists of every log that begins with this one: they hold from the moment on
 -- when the log was that long
@@ -33,6 +41,18 @@ pub record Writing : Type 0 where
   pub log : List Insert
   pub version : ℕ
   pub home : TableId
+
+-- an item was put right after x in the English list and right after y in the Hebrew one, and published; the version rises by 2
+-- at most, and stays where no label was made anew
+pub record HasPublished (old : Writing) (x y item : ℕ) (new : Writing) : Type 0 where
+  pub english : HasInserted old.lists.english x item new.lists.english
+  pub hebrew : HasInserted old.lists.hebrew y item new.lists.hebrew
+  pub log : new.log ≡ old.log ++ record { english = x; hebrew = y } ∷ []
+  pub version : new.version ≤ old.version + 2
+  pub calm : place_of old.lists.english x ≢ Relabel → place_of old.lists.hebrew y ≢ Relabel → new.version ≡ old.version
+  pub home : new.home ≡ old.home
+  pub was_kept : AreKept old.lists
+  pub kept : AreKept new.lists
 
 -- the words have the labels of a list
 pub record Shows (words : List ℕ) (word : ℕ → ℕ) (order : List ℕ) (l : Ordered) : Type 0 where

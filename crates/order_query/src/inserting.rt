@@ -1,13 +1,12 @@
 //! What the writer does with the words.
-ghost use Rattle.std.specs.Prelude.{◌≡◌, ◌≢◌, ℕ, ◌+◌, ◌*◌, ◌%◌, ◌<◌, ◌≤◌, true, List, [], ◌∷◌, ◌++◌, None};
+ghost use Rattle.std.specs.Prelude.{◌≡◌, ℕ, ◌+◌, ◌*◌, ◌%◌, ◌<◌, ◌≤◌, true, List, [], ◌∷◌, ◌++◌, None};
 ghost use Rattle.std.specs.Prelude.{length, slice_index, slice_set};
-ghost use Rattle.order_list.specs.declared.place.Place.TheVariants.{Relabel};
 ghost use Rattle.order_list.specs.Ordered.{Ordered, IsKept};
-ghost use Rattle.order_list.specs.Labels.{place_of, HasMadeSpace, HasInserted};
-ghost use Rattle.order_list.specs.Sides.{Lists, AreKept};
+ghost use Rattle.order_list.specs.Labels.{HasMadeSpace};
+ghost use Rattle.order_list.specs.Sides.{Lists};
 ghost use Rattle.order_query.specs.Rule.{IsPublished, MayWrite};
 ghost use Rattle.order_query.specs.Plays.{after_store};
-ghost use Rattle.order_query.specs.Reading.{Shows, ShowBoth};
+ghost use Rattle.order_query.specs.Reading.{Shows, ShowBoth, HasPublished};
 ghost use Rattle.order_query.specs.Showing.{word_of, with_words, set_labels, AreItemsOf, ChangesSide, MayShow, MayCount};
 
 use crate::orders::Orders;
@@ -174,15 +173,7 @@ impl Orders {
         requires e_in { after_e.0 < length writer.old.lists.english.order }
         requires h_in { after_h.0 < length writer.old.lists.hebrew.order }
         requires room { 1 ≤ writer.old.lists.english.room }
-        ensures english { HasInserted writer.old.lists.english after_e.0 result.0 writer.new.lists.english }
-        ensures hebrew { HasInserted writer.old.lists.hebrew after_h.0 result.0 writer.new.lists.hebrew }
-        ensures log { writer.new.log ≡ writer.old.log ++ record { english = after_e.0; hebrew = after_h.0 } ∷ [] }
-        ensures version { writer.new.version ≤ writer.old.version + 2 }
-        ensures calm { place_of writer.old.lists.english after_e.0 ≢ Relabel → place_of writer.old.lists.hebrew after_h.0 ≢ Relabel
-            → writer.new.version ≡ writer.old.version }
-        ensures home { writer.new.home ≡ writer.old.home }
-        ensures was_kept { AreKept writer.old.lists }
-        ensures kept { AreKept writer.new.lists }
+        ensures { HasPublished writer.old after_e.0 after_h.0 result.0 writer.new }
     {
         let windows = writer.lists.make_space(after_e, after_h);
         writer.version = self.show_windows(
@@ -204,15 +195,7 @@ impl Orders {
         requires e_in { after_e.0 < length writer.old.lists.english.order }
         requires h_in { after_h.0 < length writer.old.lists.hebrew.order }
         requires room { 1 ≤ writer.old.lists.english.room }
-        ensures english { HasInserted writer.old.lists.english after_e.0 result.0 writer.new.lists.english }
-        ensures hebrew { HasInserted writer.old.lists.hebrew after_h.0 result.0 writer.new.lists.hebrew }
-        ensures log { writer.new.log ≡ writer.old.log ++ record { english = after_e.0; hebrew = after_h.0 } ∷ [] }
-        ensures version { writer.new.version ≤ writer.old.version + 2 }
-        ensures calm { place_of writer.old.lists.english after_e.0 ≢ Relabel → place_of writer.old.lists.hebrew after_h.0 ≢ Relabel
-            → writer.new.version ≡ writer.old.version }
-        ensures home { writer.new.home ≡ writer.old.home }
-        ensures was_kept { AreKept writer.old.lists }
-        ensures kept { AreKept writer.new.lists }
+        ensures { HasPublished writer.old after_e.0 after_h.0 result.0 writer.new }
     {
         self.insert_as::<Brand>(writer, after_e, after_h)
     }

@@ -7,7 +7,7 @@ ghost use Rattle.order_list.specs.Sides.{AreSides, HasMoved};
 ghost use Rattle.order_query.specs.Rule.{OrderRule, AllStart};
 ghost use Rattle.order_query.specs.Plays.{after_version, after_label, joined, reader_of, IsMoment};
 ghost use Rattle.order_query.specs.Logs.{StartsWith, english_of, hebrew_of, count_of};
-ghost use Rattle.order_query.specs.Reading.{AreSidesFrom};
+ghost use Rattle.order_query.specs.Reading.{HasOnlyLoaded, AreSidesFrom};
 
 use crate::plays::{LoadsLabel, LoadsVersion, Readers, Rule};
 use crate::reader::{Reader, Writer};
@@ -187,9 +187,7 @@ impl Orders {
         ensures sides { IfOk result (λ sides. AreSides sides x.0 y.0 (english_of reader.old.log) (hebrew_of reader.old.log)) }
         ensures stays { IfOk result (λ sides. AreSidesFrom sides x.0 y.0 reader.old.log) }
         ensures moved { IfErr result (λ moved. HasMoved moved true reader.old.loaded reader.new.loaded) }
-        ensures loads { (more : List ℕ) × (reader.new.loaded ≡ reader.old.loaded ++ more) }
-        ensures log { reader.new.log ≡ reader.old.log }
-        ensures home { reader.new.home ≡ reader.old.home }
+        ensures reader { HasOnlyLoaded reader.old reader.new }
         ensures steps { steps.new ≤ steps.old + 6 }
     {
         let first = self.load_version(&mut reader.seat, steps);
@@ -230,9 +228,7 @@ impl Orders {
         requires y_known { y.0 < count_of reader.old.log }
         ensures sides { IfOk result (λ sides. AreSides sides x.0 y.0 (english_of reader.old.log) (hebrew_of reader.old.log)) }
         ensures moved { IfErr result (λ moved. HasMoved moved true reader.old.loaded reader.new.loaded) }
-        ensures loads { (more : List ℕ) × (reader.new.loaded ≡ reader.old.loaded ++ more) }
-        ensures log { reader.new.log ≡ reader.old.log }
-        ensures home { reader.new.home ≡ reader.old.home }
+        ensures reader { HasOnlyLoaded reader.old reader.new }
     {
         let mut steps = Steps::<L>::make(blank);
         self.try_sides(reader, x, y, &mut steps)
@@ -246,9 +242,7 @@ impl Orders {
         requires y_known { y.0 < count_of reader.old.log }
         ensures sides { AreSides result x.0 y.0 (english_of reader.old.log) (hebrew_of reader.old.log) }
         ensures stays { AreSidesFrom result x.0 y.0 reader.old.log }
-        ensures loads { (more : List ℕ) × (reader.new.loaded ≡ reader.old.loaded ++ more) }
-        ensures log { reader.new.log ≡ reader.old.log }
-        ensures home { reader.new.home ≡ reader.old.home }
+        ensures reader { HasOnlyLoaded reader.old reader.new }
     {
         self.ask::<Brand, R>(rt, reader, x, y, Blank::new(1))
     }
@@ -269,9 +263,7 @@ impl Orders {
         requires y_known { y.0 < count_of reader.old.log }
         ensures sides { AreSides result x.0 y.0 (english_of reader.old.log) (hebrew_of reader.old.log) }
         ensures stays { AreSidesFrom result x.0 y.0 reader.old.log }
-        ensures loads { (more : List ℕ) × (reader.new.loaded ≡ reader.old.loaded ++ more) }
-        ensures log { reader.new.log ≡ reader.old.log }
-        ensures home { reader.new.home ≡ reader.old.home }
+        ensures reader { HasOnlyLoaded reader.old reader.new }
     {
         let mut steps = Steps::<L>::make(blank);
         let backoff = Backoff::new();

@@ -64,7 +64,8 @@ pub fn keep(log: &mut CellLog, places: &mut Places, doer: &Doer, place: u32, wri
     requires at_known { doer.now.at.number < length places.old.english }
     requires table_known { AllKnown (length places.old.english) doer.now.reach }
     requires kept_known { AreKnown (length places.old.english) log.old.kept }
-    ensures kept { KeepsOneMore doer.now.reach doer.now.at place (kind_by writes) (length places.old.english) places.old.english places.old.hebrew log.old log.new }
+    ensures kept { KeepsOneMore doer.now.reach doer.now.at place (kind_by writes)
+        (length places.old.english) places.old.english places.old.hebrew log.old log.new }
     ensures english { places.new.english ≡ places.old.english }
     ensures hebrew { places.new.hebrew ≡ places.old.hebrew }
 {

@@ -54,7 +54,8 @@ impl Finder {
     /// Takes one more entry, after fewer than 2^29. After `NoMemory` it still knows what it knew.
     pub fn take(&mut self, entry: &Entry) -> Result<(), NoMemory>
         requires { (h : List Event) × IsFinderOf h self.old × IsInStep (h ++ event_of entry.now ∷ []) × (length h < 2 ^ 29) }
-        ensures takes { OnOk result ((h : List Event) → IsFinderOf h self.old → IsInStep (h ++ event_of entry.now ∷ []) → IsFinderOf (h ++ event_of entry.now ∷ []) self.new) }
+        ensures takes { OnOk result ((h : List Event) → IsFinderOf h self.old → IsInStep (h ++ event_of entry.now ∷ [])
+            → IsFinderOf (h ++ event_of entry.now ∷ []) self.new) }
         ensures stays { OnErr result ((h : List Event) → IsFinderOf h self.old → IsFinderOf h self.new) }
     {
         match &entry.act {

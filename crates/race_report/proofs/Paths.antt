@@ -1,21 +1,13 @@
 -- Paths that are made longer at the end, turned round, or kept inside a closed set.
-use Rattle.std.proofs.Common.{◌≡◌, ℕ, ◌<◌, Bool, true, List, [], ◌∷◌, ◌++◌, length, get_or, zero, suc, map, reverse, inl, inr, sym, subst, refl, ap, arith}
+use Rattle.std.proofs.Common.{◌≡◌, ℕ, ◌<◌, Bool, true, List, [], ◌∷◌, length, get_or, zero, suc, map, reverse, inl, inr, sym, subst, refl, ap, arith}
 use Rattle.std.specs.Prelude.{All, IsTrue, ◌↔◌, ◌||◌}
 use Rattle.std.proofs.lemmas.Bool.{or_cases, or_left, or_right}
 use Rattle.std.proofs.lemmas.List.{reverse-append, reverse-reverse}
 use Rattle.std.proofs.lemmas.List.Elements.{All-head, All-tail}
+use Rattle.fut_base.proofs.Members.{among_left, among_right}
 use Rattle.fut_base.specs.Dag.{Among, IsPath, ReachesBy, AreJoinedBy}
 use Rattle.race_report.specs.declared.edges.Edge.{Edge}
 use Rattle.race_report.specs.Edges.{ends_of, turn}
-
-among_left : {X : Type 0} (x : X) (xs ys : List X) → Among x xs → Among x (xs ++ ys)
-among_left x [] ys h = absurd h
-among_left x (y ∷ xs) ys (inl same) = inl same
-among_left x (y ∷ xs) ys (inr h) = inr (among_left x xs ys h)
-
-among_right : {X : Type 0} (x : X) (xs ys : List X) → Among x ys → Among x (xs ++ ys)
-among_right x [] ys h = h
-among_right x (y ∷ xs) ys h = inr (among_right x xs ys h)
 
 among_reverse : {X : Type 0} (x : X) (xs : List X) → Among x xs → Among x (reverse xs)
 among_reverse x [] h = absurd h

@@ -1,7 +1,13 @@
 -- What is accepted for a well-typed program is within the bounds of a run text.
-use Rattle.std.proofs.Common.{◌≡◌, ℕ, zero, suc, ◌+◌, ◌<◌, ◌≤◌, ◌^◌, Bool, true, false, ◌||◌, List, [], ◌∷◌, ◌++◌, length, refl, sym, ap, subst, arith, ltb-false, length-append}
+use Rattle.std.proofs.Common.{◌≡◌, ℕ, zero, suc, ◌+◌, ◌<◌, ◌≤◌, ◌^◌, Bool, List, [], ◌∷◌, ◌++◌, length, refl, sym, ap, subst, arith, ltb-false, length-append}
 use Rattle.std.specs.Prelude.{Some, All, slice_get, nat_eq, nat_lt}
 use Rattle.std.proofs.lemmas.List.Elements.{All-head, All-tail, All-weaker}
+use Rattle.std.proofs.lemmas.Option.{same_Some}
+use Rattle.std.proofs.lemmas.Bool.{or_parts}
+use Rattle.run_record.specs.declared.bounds.TheConstants.{MOST_RACES, MOST_ARGUMENTS}
+use Rattle.task_code.proofs.Serving.{few_cells}
+use Rattle.fut_rules.proofs.Slots.{slots_more}
+use Rattle.fut_base.specs.declared.limits.TheConstants.{MOST_ENTRIES}
 use Rattle.fut_base.specs.declared.record.Value.{Value}
 use Rattle.fut_base.specs.declared.record.Race.{Race}
 use Rattle.fut_base.specs.declared.event.Event.{Event}
@@ -13,10 +19,10 @@ use Rattle.fut_rules.specs.declared.fault.Rule.TheVariants as rule
 use Rattle.fut_rules.specs.declared.names.Variable.{Variable}
 use Rattle.fut_rules.specs.Faults.{fault_if}
 use Rattle.fut_rules.specs.Kinds.{kind_of, size}
-use Rattle.fut_rules.specs.Names.{declares, cells, slots}
-use Rattle.fut_rules.specs.Widths.{param_width, item_width}
+use Rattle.fut_rules.specs.Names.{cells, slots}
+use Rattle.fut_rules.specs.Widths.{param_width}
 use Rattle.fut_check.specs.Stmts.{type_faults, declared_faults}
-use Rattle.fut_check.specs.Items.{items_of, param_variable, is_over, param_faults, params_faults, is_bad_array, item_faults, items_faults, IsWellTyped}
+use Rattle.fut_check.specs.Items.{items_of, param_variable, is_over, param_faults, params_faults, IsWellTyped}
 use Rattle.task_machine.specs.Texts.{cell_count, count_cells}
 use Rattle.task_machine.specs.State.{Wish, Answers}
 use Rattle.task_machine.specs.Machine.{Machine, opening, Leads}
@@ -24,7 +30,7 @@ use Rattle.task_machine.proofs.Leading.{leads_further}
 use Rattle.task_machine.proofs.Places.{get_below}
 use Rattle.task_types.specs.Typed.{ParamsFit, ArgsFit, any_future}
 use Rattle.task_types.specs.Running.{Passes}
-use Rattle.task_types.proofs.Slots.{some_one, no_some, nil_left, nil_right, nil_three, not_found}
+use Rattle.task_types.proofs.Slots.{no_some, nil_left, nil_right, nil_three, not_found}
 use Rattle.task_types.proofs.Running.{children_fit}
 use Rattle.task_types.proofs.Texts.{good_text}
 use Rattle.run_laws.specs.Laws.{HasCells}
@@ -33,41 +39,33 @@ use Rattle.run_laws.proofs.Stuck.{AccessesBelow, wish_below}
 use Rattle.run_record.specs.Records.{IsAny, IsActionWith, IsAction, AreNumbered, AreEvents, AreRaces}
 use Rattle.run_check.specs.Within.{AcceptedAreWithin}
 
-or_right : (a b : Bool) → (a || b) ≡ false → b ≡ false
-or_right true b h = absurd (let e : true ≡ false = h in cc)
-or_right false b h = h
-
 -- ---- arguments
 
-slots_more : (xs : List Variable) (x : Variable) → slots (xs ++ x ∷ []) ≡ slots xs + size x.kind
-slots_more [] x = omega arith
-slots_more (y ∷ ys) x = let k : slots (ys ++ x ∷ []) ≡ slots ys + size x.kind = slots_more ys x in omega arith
-
-values_few : (globals : List tree.Item) (gives : ℕ → ℕ → Bool) (before : List Variable) (n : ℕ) (ps : List tree.Param) (vs : List Value) → slots before ≤ 16 → params_faults globals before n ps ≡ [] → ParamsFit gives ps vs → slots before + length vs ≤ 16
+values_few : (globals : List tree.Item) (gives : ℕ → ℕ → Bool) (before : List Variable) (n : ℕ) (ps : List tree.Param) (vs : List Value) → slots before ≤ MOST_ARGUMENTS → params_faults globals before n ps ≡ [] → ParamsFit gives ps vs → slots before + length vs ≤ MOST_ARGUMENTS
 values_few globals gives before n [] vs few f fits = let none : length vs ≡ 0 = ap length fits in omega arith
 values_few globals gives before n (p ∷ ps) vs few f (own, rest, is, holds, sized, fits) =
     let later = params_faults globals (before ++ param_variable p ∷ []) (n + param_width p) ps in
     let parts = nil_three (declared_faults globals before n (param_variable p)) (fault_if (is_over before (kind_of p.type)) n rule.ConstantLimit) (type_faults (n + 2) p.type) (nil_left (param_faults globals before n p) later f) in
     let over = not_found (is_over before (kind_of p.type)) n rule.ConstantLimit parts.1 in
-    let fit : slots before + size (kind_of p.type) ≤ 16 = ltb-false 16 (slots before + size (kind_of p.type)) (or_right (nat_eq (length before) 8) (nat_lt 16 (slots before + size (kind_of p.type))) over) in
+    let fit : slots before + size (kind_of p.type) ≤ 16 = ltb-false 16 (slots before + size (kind_of p.type)) (or_parts (nat_eq (length before) 8) (nat_lt 16 (slots before + size (kind_of p.type))) over).1 in
     let more : slots (before ++ param_variable p ∷ []) ≡ slots before + size (kind_of p.type) = slots_more before (param_variable p) in
-    let behind : slots (before ++ param_variable p ∷ []) + length rest ≤ 16 =
+    let behind : slots (before ++ param_variable p ∷ []) + length rest ≤ MOST_ARGUMENTS =
     values_few globals gives (before ++ param_variable p ∷ []) (n + param_width p) ps rest (omega arith) (nil_right (param_faults globals before n p) later f) fits in
     omega (arith, ap length is, length-append own rest, sized)
 
-args_few : (P : tree.Program) (gives : ℕ → ℕ → Bool) (which : ℕ) (args : List Value) → IsWellTyped P → ArgsFit gives P which args → length args ≤ 16
+args_few : (P : tree.Program) (gives : ℕ → ℕ → Bool) (which : ℕ) (args : List Value) → IsWellTyped P → ArgsFit gives P which args → length args ≤ MOST_ARGUMENTS
 args_few P gives which args typed (t, is, fits) =
     let good = good_text P which t typed is in
-    let few : 0 + length args ≤ 16 = values_few (items_of P) gives [] good.at t.params args (omega arith) good.params fits in
+    let few : 0 + length args ≤ MOST_ARGUMENTS = values_few (items_of P) gives [] good.at t.params args (omega arith) good.params fits in
     omega arith
 
 -- a call has at most 16 arguments
 abbrev IsShort : Action → Type 0
-IsShort (Spawns _ _ _ _ args) = length args ≤ 16
-IsShort (Creates _ _ _ _ args) = length args ≤ 16
+IsShort (Spawns _ _ _ _ args) = length args ≤ MOST_ARGUMENTS
+IsShort (Creates _ _ _ _ args) = length args ≤ MOST_ARGUMENTS
 IsShort _ = Unit {0}
 
-short_by : (a : Action) → ((which : ℕ) (args : List Value) → Passes a which args → length args ≤ 16) → IsShort a
+short_by : (a : Action) → ((which : ℕ) (args : List Value) → Passes a which args → length args ≤ MOST_ARGUMENTS) → IsShort a
 short_by (Reads _ _) few = tt
 short_by (Writes _ _) few = tt
 short_by (Spawns code _ _ _ args) few = few code args (refl, refl)
@@ -93,30 +91,8 @@ events_within P past (e ∷ h) m n typed before (next, step, rest) ((task, stran
 
 -- ---- cells
 
-cells_more : (xs : List tree.Item) (i : tree.Item) → cells (xs ++ i ∷ []) ≡ cells xs + cells (i ∷ [])
-cells_more [] i = omega arith
-cells_more (tree.CellsOf w m ∷ xs) i = let k : cells (xs ++ i ∷ []) ≡ cells xs + cells (i ∷ []) = cells_more xs i in omega arith
-cells_more (tree.TaskOf w ps d b ∷ xs) i = cells_more xs i
-
-cells_few : (globals before items : List tree.Item) (n : ℕ) → cells before ≤ 65536 → items_faults globals before n items ≡ [] → cells before + count_cells items ≤ 65536
-cells_few globals before [] n few f = omega arith
-cells_few globals before (tree.CellsOf w m ∷ rest) n few f =
-    let later = items_faults globals (before ++ tree.CellsOf w m ∷ []) (n + item_width (tree.CellsOf w m)) rest in
-    let bad = nil_right (fault_if (declares before w) (n + 1) rule.DoubledName) (fault_if (is_bad_array before m) (n + 3) rule.ConstantLimit) (nil_left (item_faults globals before n (tree.CellsOf w m)) later f) in
-    let fit : cells before + m ≤ 65536 = ltb-false 65536 (cells before + m) (or_right (nat_eq m 0) (nat_lt 65536 (cells before + m)) (not_found (is_bad_array before m) (n + 3) rule.ConstantLimit bad)) in
-    let more : cells (before ++ tree.CellsOf w m ∷ []) ≡ cells before + (m + 0) = cells_more before (tree.CellsOf w m) in
-    let behind : cells (before ++ tree.CellsOf w m ∷ []) + count_cells rest ≤ 65536 =
-    cells_few globals (before ++ tree.CellsOf w m ∷ []) rest (n + item_width (tree.CellsOf w m)) (omega arith) (nil_right (item_faults globals before n (tree.CellsOf w m)) later f) in
-    omega arith
-cells_few globals before (tree.TaskOf w ps d b ∷ rest) n few f =
-    let more : cells (before ++ tree.TaskOf w ps d b ∷ []) ≡ cells before + 0 = cells_more before (tree.TaskOf w ps d b) in
-    let behind : cells (before ++ tree.TaskOf w ps d b ∷ []) + count_cells rest ≤ 65536 =
-    cells_few globals (before ++ tree.TaskOf w ps d b ∷ []) rest (n + item_width (tree.TaskOf w ps d b)) (omega arith)
-    (nil_right (item_faults globals before n (tree.TaskOf w ps d b)) (items_faults globals (before ++ tree.TaskOf w ps d b ∷ []) (n + item_width (tree.TaskOf w ps d b)) rest) f) in
-    omega arith
-
-cell_count_few : (P : tree.Program) → IsWellTyped P → cell_count P ≤ 65536
-cell_count_few P typed = let k : 0 + count_cells (items_of P) ≤ 65536 = cells_few (items_of P) [] (items_of P) 0 (omega arith) typed in omega arith
+cell_count_few : (P : tree.Program) → IsWellTyped P → cell_count P ≤ MOST_RACES
+cell_count_few P typed = let k : 0 + count_cells (items_of P) ≤ MOST_RACES = few_cells (items_of P) [] 0 (items_of P) (omega arith) typed in omega arith
 
 access_below : (n : ℕ) (w : Wish) (a : Action) (c : ℕ) → AccessesBelow n w → Answers w a → IsAccess c a → c < n
 access_below n w (Reads cell _) c below answers is = subst (λ z. z < n) is (subst (AccessesBelow n) answers below)
@@ -131,7 +107,7 @@ access_below n w (Ends _) c below answers is = absurd is
 accesses_below : (P : tree.Program) (m n : Machine) (h : List Event) (i : ℕ) (e : Event) (c : ℕ) → HasCells P → Leads P m h n → slice_get h i ≡ Some e → IsAccess c e.action → c < cell_count P
 accesses_below P m n [] i e c some l at is = absurd (no_some e _ at refl)
 accesses_below P m n (x ∷ h) zero e c some (next, step, rest) at is =
-    access_below (cell_count P) _ x.action c (wish_below P some step.stop) step.answers (subst (λ (z : Event). IsAccess c z.action) (sym (some_one x e at)) is)
+    access_below (cell_count P) _ x.action c (wish_below P some step.stop) step.answers (subst (λ (z : Event). IsAccess c z.action) (sym (same_Some x e at)) is)
 accesses_below P m n (x ∷ h) (suc i) e c some (next, step, rest) at is = accesses_below P next n h i e c some rest at is
 
 -- ---- races
@@ -164,10 +140,10 @@ races_few cells entries (r ∷ rs) each up =
     let k : r.cell + length (r ∷ rs) ≤ cells = rising_few cells entries r rs (All-head (IsInside cells entries) r rs each) (All-tail (IsInside cells entries) r rs each) up in
     omega arith
 
-small : (n most : ℕ) → n < most → most ≤ 1000000 → n < 2 ^ 32
+small : (n most : ℕ) → n < most → most ≤ MOST_ENTRIES → n < 2 ^ 32
 small n most lt le = let k : n < 4294967296 = omega arith in k
 
-races_within : (cells entries : ℕ) (races : List Race) → cells ≤ 1000000 → entries ≤ 1000000 → All (IsInside cells entries) races → AreRaces races
+races_within : (cells entries : ℕ) (races : List Race) → cells ≤ MOST_ENTRIES → entries ≤ MOST_ENTRIES → All (IsInside cells entries) races → AreRaces races
 races_within cells entries [] few short each = tt
 races_within cells entries (r ∷ rs) few short each =
     let own = All-head (IsInside cells entries) r rs each in
@@ -183,7 +159,7 @@ accepted_are_within P bytes h races end typed accepted short few numbered finish
     let inside =
     All-weaker (λ (r : Race). IsFirstPair h r.cell r.first r.second) (IsInside (cell_count P) (length h))
     (pair_inside P h m (well_typed_has_cells P typed) leads) races report.each in
-    let cells : cell_count P ≤ 65536 = cell_count_few P typed in
+    let cells : cell_count P ≤ MOST_RACES = cell_count_few P typed in
     let some : length races ≤ cell_count P = races_few (cell_count P) (length h) races inside report.order in
     record {
       short = short;

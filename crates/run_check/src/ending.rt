@@ -8,13 +8,11 @@ ghost use Rattle.task_code.specs.Flat.{Compiled};
 ghost use Rattle.run_replay.specs.Next.{is_create};
 ghost use Rattle.run_replay.specs.Replays.{IsReplayOf, IsSomeReplay};
 
+use fut_base::limits::MOST_CREATES;
 use fut_base::record::Finish;
 use run_replay::replay::{Replay, is_long};
 use task_code::code::Code;
 use task_code::task::Wish;
-
-/// The greatest number of creates of a run.
-const MOST_FUTURES: u32 = 4096;
 
 fn is_to_create(wish: Wish) -> bool
     ensures { result ≡ is_create wish }
@@ -64,7 +62,7 @@ fn is_out_of_futures(run: &mut Replay, code: &Code, task: u32) -> bool
     requires known { IsSomeReplay code.now run.old }
     ensures { (P : tree.Program) (h : List Event) (m : Machine) → IsReplayOf P code.now h run.old m → IsTrue result ↔ FinishHolds P h (finish.Futures task) }
 {
-    if run.creates() != MOST_FUTURES {
+    if run.creates() != MOST_CREATES {
         return false;
     }
     if !run.runs(task) {

@@ -5,7 +5,8 @@
 pub mod checking;
 mod ending;
 pub mod laws;
-pub mod numbers;
 mod same;
 #[cfg(test)]
 mod tests;
+
+pub use fut_base::bounds as numbers;

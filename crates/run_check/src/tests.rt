@@ -5,12 +5,12 @@ ghost use Rattle.fut_check.specs.Items.{IsWellTyped};
 ghost use Rattle.task_code.specs.Flat.{IsCodeOf};
 
 use crate::checking::{RunFault, check_run};
+use fut_base::acts::copy_of;
 use fut_base::list::{Listing, NoMemory};
 use fut_base::record::{Act, Entry, Finish, History, Limits, Race, Value};
 use fut_check::check;
 use fut_syntax::parse;
 use run_record::record::RunText;
-use run_replay::copies::copy_of;
 use run_replay::serial::serial;
 use std::alloc::Global;
 use std::test::Fail;

@@ -1,6 +1,10 @@
 -- Each task ends once, and a get stands after the end that it waited for.
 use Rattle.std.proofs.Common.{◌≡◌, ◌≢◌, ℕ, ◌+◌, ◌≤◌, Bool, true, false, ◌==◌, List, [], ◌∷◌, ◌++◌, ◌⊎◌, inl, inr, refl, sym, ap, ◌∙◌, subst, arith}
 use Rattle.std.specs.Prelude.{◌&&◌, Option, Some, None, IsSome, is_some, count_by, slice_get}
+use Rattle.std.proofs.lemmas.Option.{same_Some}
+use Rattle.std.proofs.lemmas.Bool.{eqb-true, cases_Bool}
+use Rattle.fut_base.proofs.Members.{among_left}
+use Rattle.fut_base.proofs.Cases.{by_eq}
 use Rattle.fut_base.specs.declared.record.Value.{Value}
 use Rattle.fut_base.specs.declared.event.Event.{Event}
 use Rattle.fut_base.specs.declared.event.Action.{Action}
@@ -12,10 +16,9 @@ use Rattle.task_machine.specs.Texts.{main_of}
 use Rattle.task_machine.specs.Machine.{Machine, Running, opening, begins, acted, child_of, ended_with, Permits, IsStep, Leads}
 use Rattle.task_machine.proofs.Leading.{split}
 use Rattle.task_machine.proofs.Making.{acting_task, others_stay}
-use Rattle.strand_laws.proofs.Places.{by_eq, among_left}
 use Rattle.strand_laws.proofs.Links.{ev}
 use Rattle.run_laws.specs.Laws.{ends_task, EndedOnce, ValueWasEnded, GetsFollowEnds}
-use Rattle.run_laws.proofs.Mirrored.{only, tested}
+use Rattle.run_laws.proofs.Mirrored.{only}
 use Rattle.run_laws.proofs.Once.{comes, count_on, count_off, not_both}
 use Rattle.run_laws.proofs.Sound.{ended_is}
 
@@ -24,26 +27,20 @@ pub record IsDone (m : Machine) (t : ℕ) : Type 0 where
   pub present : slice_get m.tasks t ≡ Some task
   pub done : IsSome task.value
 
-some_same : {X : Type 0} (x y : X) → Some x ≡ Some y → x ≡ y
-some_same x y h = cc
-
-is_eq : (a b : ℕ) → (a == b) ≡ true → a ≡ b
-is_eq a b = by_eq (λ t. t ≡ true → a ≡ b) a b (λ e _. e) (λ _ k. cc)
-
 ends_is : (t : ℕ) (e : Event) → ends_task t e ≡ true → (ends e.action ≡ true) × (e.task ≡ t)
 ends_is t e h = go (ends e.action) h
   where
     go : (b : Bool) → (b && (e.task == t)) ≡ true → (b ≡ true) × (e.task ≡ t)
-    go true k = (refl, is_eq e.task t k)
+    go true k = (refl, eqb-true e.task t k)
     go false k = cc
 
 ends_not : (t : ℕ) (e : Event) → e.task ≢ t → ends_task t e ≡ false
-ends_not t e ne = elim (tested (ends_task t e)) [ inl st ↦ absurd (ne (ends_is t e st).1) | inr off ↦ off ]
+ends_not t e ne = elim (cases_Bool (ends_task t e)) [ inl st ↦ absurd (ne (ends_is t e st).1) | inr off ↦ off ]
 
 done_next : (P : tree.Program) (m : Machine) (e : Event) (n : Machine) (t : ℕ) → IsStep P m e n → IsDone m t → (e.task ≢ t) × IsDone n t
 done_next P m e n t x d =
     let ne : e.task ≢ t = λ k. (
-    let same : x.task ≡ d.task = some_same x.task d.task (sym x.present ∙ ap (λ z. slice_get m.tasks z) k ∙ d.present) in
+    let same : x.task ≡ d.task = same_Some x.task d.task (sym x.present ∙ ap (λ z. slice_get m.tasks z) k ∙ d.present) in
     not_both d.task.value (sym (ap (λ (z : Running). z.value) same) ∙ x.running) d.done) in
     (ne, record { task = d.task; present = others_stay P m e n t d.task x (λ k. ne (sym k)) d.present; done = d.done })
 
@@ -65,7 +62,7 @@ end_value (Ends v) o h = refl
 ended_from : (P : tree.Program) (m : Machine) (h : List Event) (n : Machine) (t : ℕ) → Leads P m h n → count_by (ends_task t) h ≤ 1
 ended_from P m [] n t l = omega arith
 ended_from P m (e ∷ h) n t (next, step, rest) =
-    elim (tested (ends_task t e)) [
+    elim (cases_Bool (ends_task t e)) [
       | inl st ↦ (
           let k = ends_is t e st in
           let d : IsDone next e.task = record { task = acted step.task step.stop e.action; present = acting_task P m e next step; done = end_value e.action step.task.value k.0 } in
@@ -94,7 +91,7 @@ end_action (Spawns _ _ _ _ _) v o run h = cc
 end_action (Creates _ _ _ _ _) v o run h = cc
 end_action (Syncs _) v o run h = cc
 end_action (Gets _ _ _) v o run h = cc
-end_action (Ends w) v o run h = let e : w ≡ v = some_same w v h in ap (λ (z : Value). Ends z) e
+end_action (Ends w) v o run h = let e : w ≡ v = same_Some w v h in ap (λ (z : Value). Ends z) e
 
 child_runs : (P : tree.Program) (r : Running) (a : Action) (k : ℕ) (q : Running) → slice_get (child_of P r a) k ≡ Some q → q.value ≡ None
 child_runs P r (Reads _ _) k q h = cc
@@ -145,7 +142,7 @@ count_among p d (e ∷ h) (inl same) st =
     omega arith
 count_among p d (e ∷ h) (inr a) st =
     let ih : 1 ≤ count_by p h = count_among p d h a st in
-    elim (tested (p e)) [
+    elim (cases_Bool (p e)) [
       | inl on ↦ (let k : count_by p (e ∷ h) ≡ 1 + count_by p h = count_on p e h on in omega arith)
       | inr off ↦ (let k : count_by p (e ∷ h) ≡ count_by p h = count_off p e h off in omega arith)
     ]

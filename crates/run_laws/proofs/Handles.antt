@@ -1,6 +1,7 @@
 -- What holds of the values in a task's variables holds of all that the task makes of them.
 use Rattle.std.proofs.Common.{◌≡◌, ℕ, zero, suc, Bool, true, false, List, [], ◌∷◌, ◌++◌, length, drop, take, replicate, refl, ◌∙◌, subst, if◌then◌else◌}
 use Rattle.std.specs.Prelude.{ℤ, pos, Option, Some, None, slice_set, slice_index_or, bytes_eq}
+use Rattle.std.proofs.lemmas.Option.{same_Some}
 use Rattle.fut_base.specs.declared.record.Value.{Value}
 use Rattle.fut_base.specs.declared.record.Value.TheVariants.{Int, Fut}
 use Rattle.fut_base.specs.declared.event.Action.{Action}
@@ -157,11 +158,8 @@ module _ (V : Value → Type 0) (int : (z : ℤ) → V (Int z)) where
   abbrev pub Kept : TaskState → TaskState → Type 0
   Kept s t = (t.is_open ≡ s.is_open) × InAll V t.vars
 
-  some_state : (s t : TaskState) → Some s ≡ Some t → s ≡ t
-  some_state s t h = cc
-
   kept_by : (s t u : TaskState) → Kept s t → Some t ≡ Some u → Kept s u
-  kept_by s t u k e = subst (λ x. Kept s x) (some_state t u e) k
+  kept_by s t u k e = subst (λ x. Kept s x) (same_Some t u e) k
 
   init_all : (s u : TaskState) (rest : List tree.Stmt) (stmt : tree.Stmt) (o : Option Value) → ((v : Value) → o ≡ Some v → V v) → InAll V s.vars → init_step s rest stmt o ≡ Some u → Kept s u
   init_all s u rest stmt None f h e = cc

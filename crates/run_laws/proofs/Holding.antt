@@ -1,6 +1,8 @@
 -- The handles in a task's variables are held by the task in the structure.
-use Rattle.std.proofs.Common.{◌≡◌, ℕ, ◌<◌, Bool, true, false, ◌==◌, ◌||◌, List, [], ◌∷◌, ◌++◌, length, inl, inr, refl, sym, ◌∙◌, subst, arith}
+use Rattle.std.proofs.Common.{◌≡◌, ℕ, ◌<◌, Bool, true, false, ◌==◌, ◌||◌, List, [], ◌∷◌, ◌++◌, length, inl, inr, refl, sym, ◌∙◌, subst, arith, eq-eqb}
 use Rattle.std.specs.Prelude.{◌&&◌, ℤ, Option, Some, None, slice_get}
+use Rattle.std.proofs.lemmas.Bool.{and_from, or_left, or_right, cases_Bool}
+use Rattle.task_machine.proofs.Stepping.{receives_open}
 use Rattle.fut_base.specs.declared.record.Value.{Value}
 use Rattle.fut_base.specs.declared.record.Value.TheVariants.{Int, Fut}
 use Rattle.fut_base.specs.declared.event.Event.{Event}
@@ -11,14 +13,13 @@ use Rattle.fut_base.specs.Dag.{block_after}
 use Rattle.fut_base.specs.Sound.{holds_by, holds_handle, is_handle, has_handle, HoldsValue}
 use Rattle.fut_syntax.specs.Trees as tree
 use Rattle.task_machine.specs.Texts.{TaskText, main_of, task_at}
-use Rattle.task_machine.specs.State.{TaskState, started, receives, effect_of}
+use Rattle.task_machine.specs.State.{TaskState, started, effect_of}
 use Rattle.task_machine.specs.Runs.{StandsAt}
 use Rattle.task_machine.specs.Machine.{Machine, Running, opening, begins, after, acted, child_of, Permits, IsStep}
 use Rattle.task_machine.proofs.Places.{Behind, get_below}
-use Rattle.strand_laws.proofs.Places.{by_eq}
 use Rattle.strand_laws.proofs.Links.{if_self, if_off, ev}
 use Rattle.run_laws.proofs.Pasts.{Came, kept_of, get_after}
-use Rattle.run_laws.proofs.Mirrored.{NotMade, not_made, only, tested, kept_on, kept_off}
+use Rattle.run_laws.proofs.Mirrored.{NotMade, not_made, only, kept_on, kept_off}
 use Rattle.run_laws.proofs.Handles.{Each, InAll, brings, each_more, all_more, start_all, stands_all, effect_all}
 
 abbrev pub is_filled : List ℕ → Bool
@@ -35,21 +36,6 @@ AllHold past m = (t : ℕ) (r : Running) → slice_get m.tasks t ≡ Some r → 
 
 pub numbers : (past : List Event) (t : ℕ) (z : ℤ) → HoldsValue past t (Int z)
 numbers past t z = tt
-
-or_left : (a b : Bool) → a ≡ true → (a || b) ≡ true
-or_left true b h = refl
-or_left false b h = cc
-
-or_right : (a b : Bool) → b ≡ true → (a || b) ≡ true
-or_right true b h = refl
-or_right false b h = h
-
-both_true : (a b : Bool) → a ≡ true → b ≡ true → (a && b) ≡ true
-both_true true b h k = k
-both_true false b h k = h
-
-eq_true : (a : ℕ) → (a == a) ≡ true
-eq_true a = by_eq (λ b. b ≡ true) a a (λ _. refl) (λ n. absurd (n refl))
 
 -- ---- the acting task and the others hold what they held
 
@@ -68,7 +54,7 @@ value_on past by s a t nm (Fut f) h = held_on by t f a (holds_handle past t f) n
 
 got : (past : List Event) (t s f : ℕ) (v : Value) (x : ℕ) → HoldsValue (ev t s (Gets f v x) ∷ past) t v
 got past t s f (Int z) x = tt
-got past t s f (Fut g) x = or_left ((t == t) && (g == g)) (holds_handle past t g) (both_true (t == t) (g == g) (eq_true t) (eq_true g))
+got past t s f (Fut g) x = or_left ((t == t) && (g == g)) (holds_handle past t g) (and_from (t == t) (g == g) (eq-eqb t t refl) (eq-eqb g g refl))
 
 -- what an action brings is held
 brought : (past : List Event) (t s : ℕ) (a : Action) → NotMade a t → HoldsValue (ev t s a ∷ past) t (brings a)
@@ -77,14 +63,10 @@ brought past t s (Writes _ _) nm = tt
 brought past t s (Spawns _ _ _ _ _) nm = tt
 brought past t s (Creates _ child _ _ args) nm =
     if_off t child (has_handle child args) (((t == t) && (child == child)) || holds_handle past t child) nm
-    ∙ or_left ((t == t) && (child == child)) (holds_handle past t child) (both_true (t == t) (child == child) (eq_true t) (eq_true child))
+    ∙ or_left ((t == t) && (child == child)) (holds_handle past t child) (and_from (t == t) (child == child) (eq-eqb t t refl) (eq-eqb child child refl))
 brought past t s (Syncs _) nm = tt
 brought past t s (Gets f value x) nm = got past t s f value x
 brought past t s (Ends _) nm = tt
-
-receives_open : (s : TaskState) (todo : List tree.Stmt) (v : Value) → (receives s todo v).is_open ≡ s.is_open
-receives_open s [] v = refl
-receives_open s (stmt ∷ rest) v = refl
 
 filled_end : (b : List ℕ) (c : ℕ) → true ≡ is_filled (b ++ c ∷ [])
 filled_end [] c = refl
@@ -125,11 +107,11 @@ given (v ∷ args) = (
 
 spawn_given : (past : List Event) (by s code child kid cont : ℕ) (args : List Value) (v : Value) → Given args v → HoldsValue (ev by s (Spawns code child kid cont args) ∷ past) child v
 spawn_given past by s code child kid cont args (Int z) g = tt
-spawn_given past by s code child kid cont args (Fut f) g = if_self child (has_handle f args) (holds_handle past child f) ∙ g f (eq_true f)
+spawn_given past by s code child kid cont args (Fut f) g = if_self child (has_handle f args) (holds_handle past child f) ∙ g f (eq-eqb f f refl)
 
 create_given : (past : List Event) (by s code child kid cont : ℕ) (args : List Value) (v : Value) → Given args v → HoldsValue (ev by s (Creates code child kid cont args) ∷ past) child v
 create_given past by s code child kid cont args (Int z) g = tt
-create_given past by s code child kid cont args (Fut f) g = if_self child (has_handle f args) (((child == by) && (f == child)) || holds_handle past child f) ∙ g f (eq_true f)
+create_given past by s code child kid cont args (Fut f) g = if_self child (has_handle f args) (((child == by) && (f == child)) || holds_handle past child f) ∙ g f (eq-eqb f f refl)
 
 started_open : (o : Option TaskText) (args : List Value) → (started o args).is_open ≡ false
 started_open None args = refl
@@ -202,7 +184,7 @@ hold_same past e m off x t r h =
 hold_kept : (P : tree.Program) (past : List Event) (m n : Machine) (e : Event) → AllHold (kept_of past) m → IsStep P m e n → AllHold (kept_of (e ∷ past)) n
 hold_kept P past m n e x step =
     let next : AllHold (e ∷ kept_of past) n = hold_next P (kept_of past) m e n x step in
-    elim (tested (structural e.action)) [
+    elim (cases_Bool (structural e.action)) [
       | inl st ↦ subst (λ l. AllHold l n) (sym (kept_on past e st)) next
       | inr off ↦ subst (λ l. AllHold l n) (sym (kept_off past e off)) (hold_same (kept_of past) e n off next)
     ]

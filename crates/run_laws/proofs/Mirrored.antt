@@ -1,6 +1,8 @@
 -- The machine and the functions on the structure agree.
-use Rattle.std.proofs.Common.{◌≡◌, ◌≢◌, ℕ, zero, suc, ◌+◌, ◌<◌, ◌≤◌, Bool, true, false, ◌==◌, if◌then◌else◌, List, [], ◌∷◌, ◌++◌, length, ◌⊎◌, inl, inr, refl, sym, ap, ◌∙◌, subst, arith}
+use Rattle.std.proofs.Common.{◌≡◌, ◌≢◌, ℕ, zero, suc, ◌+◌, ◌<◌, ◌≤◌, Bool, true, false, ◌==◌, if◌then◌else◌, List, [], ◌∷◌, ◌++◌, length, inl, inr, refl, sym, ap, ◌∙◌, subst, arith}
 use Rattle.std.specs.Prelude.{◌&&◌, Option, Some, None, option_map, reverse, slice_get}
+use Rattle.std.proofs.lemmas.Bool.{cases_Bool}
+use Rattle.fut_base.proofs.Cases.{by_eq}
 use Rattle.fut_base.specs.declared.record.Value.{Value}
 use Rattle.fut_base.specs.declared.event.Event.{Event}
 use Rattle.fut_base.specs.declared.event.Action.{Action}
@@ -14,7 +16,6 @@ use Rattle.task_machine.specs.State.{TaskState}
 use Rattle.task_machine.specs.Machine.{Machine, Running, opening, begins, after, acted, child_of, strand_after, Permits, IsStep}
 use Rattle.task_machine.proofs.Places.{Behind, get_below}
 use Rattle.task_machine.proofs.Making.{task_count}
-use Rattle.strand_laws.proofs.Places.{by_eq}
 use Rattle.strand_laws.proofs.Links.{if_self, if_off, ev}
 use Rattle.run_laws.specs.Laws.{IsMirrored, IsUnborn, Mirrors, MirrorsStructure}
 use Rattle.run_laws.proofs.Pasts.{Came, came, kept_of, past_is, get_after}
@@ -285,14 +286,10 @@ kept_on past e st = rw st refl
 pub kept_off : (past : List Event) (e : Event) → structural e.action ≡ false → kept_of (e ∷ past) ≡ kept_of past
 kept_off past e off = rw off refl
 
-pub tested : (b : Bool) → (b ≡ true) ⊎ (b ≡ false)
-tested true = inl refl
-tested false = inr refl
-
 pub mirrors_kept : (P : tree.Program) (past : List Event) (m n : Machine) (e : Event) → Mirrors (kept_of past) m → IsStep P m e n → Mirrors (kept_of (e ∷ past)) n
 mirrors_kept P past m n e x step =
     let next : Mirrors (e ∷ kept_of past) n = mirrors_next P (kept_of past) m e n x step in
-    elim (tested (structural e.action)) [
+    elim (cases_Bool (structural e.action)) [
       | inl st ↦ subst (λ l. Mirrors l n) (sym (kept_on past e st)) next
       | inr off ↦ subst (λ l. Mirrors l n) (sym (kept_off past e off)) (mirrors_same (kept_of past) e n off next)
     ]

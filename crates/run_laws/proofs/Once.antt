@@ -2,6 +2,9 @@
 use Rattle.std.proofs.Common.{◌≡◌, ◌≢◌, ℕ, zero, suc, ◌+◌, ◌<◌, ◌≤◌, Bool, true, false, cond, ◌==◌, ◌||◌, List, [], ◌∷◌, ◌++◌, length, ◌⊎◌, inl, inr, refl, sym, ap, ◌∙◌, subst, arith}
 use Rattle.std.proofs.lemmas.List.Sums.{sum_by-cons}
 use Rattle.std.specs.Prelude.{◌&&◌, Option, Some, None, IsSome, is_some, count_by, slice_get}
+use Rattle.std.proofs.lemmas.Option.{same_Some}
+use Rattle.std.proofs.lemmas.Bool.{cases_Bool, cases_eq, cases_lt}
+use Rattle.fut_base.proofs.Cases.{by_eq}
 use Rattle.fut_base.specs.declared.record.Value.{Value}
 use Rattle.fut_base.specs.declared.event.Event.{Event}
 use Rattle.fut_base.specs.declared.event.Action.{Action}
@@ -16,14 +19,12 @@ use Rattle.task_machine.specs.Machine.{Machine, Running, opening, begins, acted,
 use Rattle.task_machine.proofs.Leading.{split, join}
 use Rattle.task_machine.proofs.Making.{strands_rise, strands_were_made, acting_task, others_stay, child_comes}
 use Rattle.task_machine.proofs.Places.{Behind}
-use Rattle.strand_laws.proofs.Places.{by_eq, same_or_not}
-use Rattle.strand_laws.proofs.Worlds.{lt_or_le}
 use Rattle.strand_laws.proofs.Frames.{own_of}
 use Rattle.strand_laws.proofs.Links.{linked, ev}
 use Rattle.strand_laws.proofs.Steps.{inv}
 use Rattle.run_laws.specs.Laws.{past_of, begun_by, begins_strand, leaves_strand, BegunOnce, LeftOnce, LeftForGood, StrandsAreOwn, WholeLeavesEach}
 use Rattle.run_laws.proofs.Pasts.{get_after}
-use Rattle.run_laws.proofs.Mirrored.{only, tested, mirrors}
+use Rattle.run_laws.proofs.Mirrored.{only, mirrors}
 use Rattle.run_laws.proofs.Sound.{sound_past}
 
 -- ---- the strands that an action begins have the next numbers
@@ -85,7 +86,7 @@ begun_before P m [] n v l lt = refl
 begun_before P m (e ∷ h) n v (next, step, rest) lt =
     let a : next.strands ≡ m.strands + strands_by e.action = strands_rise P m e next step in
     let ih : count_by (begins_strand v) h ≡ 0 = begun_before P next h n v rest (omega arith) in
-    elim (tested (begins_strand v e)) [
+    elim (cases_Bool (begins_strand v e)) [
       | inl st ↦ absurd (let k : m.strands ≤ v = (begun_new m step.task e.action v step.permits st).0 in omega arith)
       | inr off ↦ count_off (begins_strand v) e h off ∙ ih
     ]
@@ -96,7 +97,7 @@ begun_behind P m (e ∷ h) n v (next, step, rest) le =
     let a : next.strands ≡ m.strands + strands_by e.action = strands_rise P m e next step in
     let b : next.strands ≤ n.strands = strands_grow P next h n rest in
     let ih : count_by (begins_strand v) h ≡ 0 = begun_behind P next h n v rest le in
-    elim (tested (begins_strand v e)) [
+    elim (cases_Bool (begins_strand v e)) [
       | inl st ↦ absurd (let k : v < m.strands + strands_by e.action = (begun_new m step.task e.action v step.permits st).1 in omega arith)
       | inr off ↦ count_off (begins_strand v) e h off ∙ ih
     ]
@@ -105,14 +106,14 @@ begun_between : (P : tree.Program) (m : Machine) (h : List Event) (n : Machine) 
 begun_between P m [] n v l le lt = absurd (let e : m.strands ≡ n.strands = ap (λ (q : Machine). q.strands) l in omega arith)
 begun_between P m (e ∷ h) n v (next, step, rest) le lt =
     let a : next.strands ≡ m.strands + strands_by e.action = strands_rise P m e next step in
-    elim (lt_or_le v next.strands) [
+    elim (cases_lt v next.strands) [
       | inl here ↦ (
           let b : begins_strand v e ≡ true = new_begun m step.task e.action v step.permits le (omega arith) in
           let k : count_by (begins_strand v) h ≡ 0 = begun_before P next h n v rest here in
           count_on (begins_strand v) e h b ∙ ap (λ z. 1 + z) k)
       | inr later ↦ (
           let ih : count_by (begins_strand v) h ≡ 1 = begun_between P next h n v rest later lt in
-          elim (tested (begins_strand v e)) [
+          elim (cases_Bool (begins_strand v e)) [
             | inl st ↦ absurd (let k : v < m.strands + strands_by e.action = (begun_new m step.task e.action v step.permits st).1 in omega arith)
             | inr off ↦ count_off (begins_strand v) e h off ∙ ih
           ])
@@ -257,7 +258,7 @@ leaves_is v e h = go (structural e.action) h
     go false k = cc
 
 leaves_not : (v : ℕ) (e : Event) → e.strand ≢ v → leaves_strand v e ≡ false
-leaves_not v e ne = elim (tested (leaves_strand v e)) [ inl st ↦ absurd (ne (leaves_is v e st).1) | inr off ↦ off ]
+leaves_not v e ne = elim (cases_Bool (leaves_strand v e)) [ inl st ↦ absurd (ne (leaves_is v e st).1) | inr off ↦ off ]
 
 count_none : (v : ℕ) (h : List Event) → ((d : Event) → Among d h → d.strand ≢ v) → count_by (leaves_strand v) h ≡ 0
 count_none v [] f = refl
@@ -270,7 +271,7 @@ shifted P before m e next l step = join P (opening P) before (e ∷ []) next m l
 left_from : (P : tree.Program) (before h : List Event) (m n : Machine) (v : ℕ) → Leads P (opening P) before m → Leads P m h n → count_by (leaves_strand v) h ≤ 1
 left_from P before [] m n v c l = omega arith
 left_from P before (e ∷ h) m n v c (next, step, rest) =
-    elim (tested (leaves_strand v e)) [
+    elim (cases_Bool (leaves_strand v e)) [
       | inl st ↦ (
           let k = leaves_is v e st in
           let d : Dead next v = subst (λ z. Dead next z) k.1 (dead_left P m e next step (apart P before m c) k.0) in
@@ -313,9 +314,6 @@ stays_put (Syncs _) r off run = cc
 stays_put (Gets _ _ _) r off run = cc
 stays_put (Ends _) r off run = cc
 
-same_run : {X : Type 0} (x y : X) → Some x ≡ Some y → x ≡ y
-same_run x y h = cc
-
 not_structural : (v : ℕ) (e : Event) → e.strand ≡ v → leaves_strand v e ≡ false → structural e.action ≡ false
 not_structural v e at h = go (structural e.action) h
   where
@@ -328,9 +326,9 @@ not_structural v e at h = go (structural e.action) h
 
 live_next : (P : tree.Program) (m : Machine) (e : Event) (n : Machine) (s : ℕ) → IsStep P m e n → Live m s → leaves_strand s e ≡ false → Live n s
 live_next P m e n s x l off =
-    elim (same_or_not l.task e.task) [
+    elim (cases_eq l.task e.task) [
       | inl same ↦ (
-          let is : l.state ≡ x.task = same_run l.state x.task (sym l.present ∙ ap (λ z. slice_get m.tasks z) same ∙ x.present) in
+          let is : l.state ≡ x.task = same_Some l.state x.task (sym l.present ∙ ap (λ z. slice_get m.tasks z) same ∙ x.present) in
           let at : e.strand ≡ s = sym x.strand ∙ ap (λ (z : Running). z.strand) (sym is) ∙ l.stands in
           let k = stays_put e.action x.task (not_structural s e at off) x.running in
           record {
@@ -347,7 +345,7 @@ live_left : (P : tree.Program) (m : Machine) (h : List Event) (n : Machine) (s :
 live_left P m [] n s l all live =
     absurd (not_both live.state.value live.running (ended_at m.tasks live.task live.state (subst (λ (z : Machine). EachEnded z.tasks) (sym l) all) live.present))
 live_left P m (e ∷ h) n s (next, step, rest) all live =
-    elim (tested (leaves_strand s e)) [
+    elim (cases_Bool (leaves_strand s e)) [
       | inl st ↦ (let k : count_by (leaves_strand s) (e ∷ h) ≡ 1 + count_by (leaves_strand s) h = count_on (leaves_strand s) e h st in omega arith)
       | inr off ↦ (
           let ih : 1 ≤ count_by (leaves_strand s) h = live_left P next h n s rest all (live_next P m e next s step live off) in
@@ -382,7 +380,7 @@ module _ (P : tree.Program) (m : Machine) (t at : ℕ) (n : Machine) where
 
 more_left : (s : ℕ) (e : Event) (h : List Event) → 1 ≤ count_by (leaves_strand s) h → 1 ≤ count_by (leaves_strand s) (e ∷ h)
 more_left s e h le =
-    elim (tested (leaves_strand s e)) [
+    elim (cases_Bool (leaves_strand s e)) [
       | inl st ↦ (let k : count_by (leaves_strand s) (e ∷ h) ≡ 1 + count_by (leaves_strand s) h = count_on (leaves_strand s) e h st in omega arith)
       | inr off ↦ (let k : count_by (leaves_strand s) (e ∷ h) ≡ count_by (leaves_strand s) h = count_off (leaves_strand s) e h off in omega arith)
     ]
@@ -391,7 +389,7 @@ new_left : (P : tree.Program) (m : Machine) (h : List Event) (n : Machine) (s : 
 new_left P m [] n s l all le lt = absurd (let e : m.strands ≡ n.strands = ap (λ (q : Machine). q.strands) l in omega arith)
 new_left P m (e ∷ h) n s (next, step, rest) all le lt =
     let a : next.strands ≡ m.strands + strands_by e.action = strands_rise P m e next step in
-    more_left s e h (elim (lt_or_le s next.strands) [
+    more_left s e h (elim (cases_lt s next.strands) [
       | inl here ↦ live_left P next h n s rest all (fresh_live P m e.task e.strand next e.action step s le (omega arith))
       | inr later ↦ new_left P next h n s rest all later lt
     ])

@@ -1,6 +1,11 @@
 -- The tasks that have not ended stand in English order.
 use Rattle.std.proofs.Common.{◌≡◌, ◌≢◌, ℕ, zero, suc, ◌+◌, ◌<◌, if◌then◌else◌, List, [], ◌∷◌, ◌++◌, length, ◌⊎◌, inl, inr, refl, sym, ap, ◌∙◌, subst, arith}
 use Rattle.std.specs.Prelude.{reverse, Option, Some, None, IsSome, slice_get, slice_set}
+use Rattle.std.proofs.lemmas.Option.{same_Some}
+use Rattle.std.proofs.lemmas.Bool.{cases_eq, cases_lt}
+use Rattle.std.proofs.lemmas.List.{reverse-append}
+use Rattle.task_machine.proofs.Leading.{leads_further}
+use Rattle.fut_base.proofs.Cases.{by_eq}
 use Rattle.fut_base.specs.declared.record.Value.{Value}
 use Rattle.fut_base.specs.declared.event.Event.{Event}
 use Rattle.fut_base.specs.declared.event.Action.{Action}
@@ -13,22 +18,18 @@ use Rattle.task_machine.specs.Texts.{main_of}
 use Rattle.task_machine.specs.Machine.{Machine, Running, opening, begins, acted, child_of, Permits, IsStep, Leads, EachEnded, IsRunning}
 use Rattle.task_machine.proofs.Places.{Behind}
 use Rattle.task_machine.proofs.Making.{acting_task, others_stay, child_comes}
-use Rattle.strand_laws.proofs.Places.{place, by_eq, place_before, same_or_not}
-use Rattle.strand_laws.proofs.Worlds.{lt_or_le}
+use Rattle.strand_laws.proofs.Places.{place, place_before}
 use Rattle.strand_laws.proofs.Puts.{Whole, Fresh, place_head, place_next, put_keeps, put_at, put_anch, fresh_one, fresh_two}
 use Rattle.strand_laws.proofs.Sources.{whole_en}
 use Rattle.task_types.proofs.Running.{running_has_wish}
 use Rattle.run_laws.specs.Laws.{past_of}
 use Rattle.run_laws.specs.Ready.{put_before, without, ready_by, ready_past, ready_of, ReadyRun, ReadyIsFirst, NoneIsReady, FirstMayGoOn}
 use Rattle.run_laws.proofs.Pasts.{Came, came, kept_of, past_is, get_after}
-use Rattle.run_laws.proofs.Mirrored.{kept_on, kept_off, tested, came_mirrors, only}
-use Rattle.run_laws.proofs.Sound.{came_sound}
-use Rattle.run_laws.proofs.Once.{Apart, apart, not_both}
+use Rattle.run_laws.proofs.Mirrored.{kept_on, kept_off, came_mirrors, only, mirrors}
+use Rattle.run_laws.proofs.Sound.{came_sound, sound_past}
+use Rattle.run_laws.proofs.Once.{Apart, apart, not_both, ended_at}
 use Rattle.run_laws.proofs.Stuck.{none_is_stuck}
 use Rattle.run_laws.proofs.Typed.{well_typed_has_cells}
-
-some_same : {X : Type 0} (x y : X) → Some x ≡ Some y → x ≡ y
-some_same x y h = cc
 
 -- ---- lists in the order of a rank
 
@@ -159,9 +160,9 @@ module _ (P : tree.Program) (m : Machine) (e : Event) (n : Machine) (en : List �
   -- a task whose strand stays has its rank
   same_rank : (en' : List ℕ) → en' ≡ en → (acted k.step.task k.step.stop e.action).strand ≡ k.step.task.strand → (x : ℕ) (r : Running) → slice_get m.tasks x ≡ Some r → rank n en' x ≡ rank m en x
   same_rank en' same strand x r h =
-      elim (same_or_not x e.task) [
+      elim (cases_eq x e.task) [
         | inl t ↦ (
-            let task : k.step.task ≡ r = some_same k.step.task r (sym k.step.present ∙ subst (λ i. slice_get m.tasks i ≡ Some r) t h) in
+            let task : k.step.task ≡ r = same_Some k.step.task r (sym k.step.present ∙ subst (λ i. slice_get m.tasks i ≡ Some r) t h) in
             let here : slice_get n.tasks x ≡ Some (acted k.step.task k.step.stop e.action) = subst (λ i. slice_get n.tasks i ≡ Some (acted k.step.task k.step.stop e.action)) (sym t) own in
             rank_is n en' x (acted k.step.task k.step.stop e.action) here ∙ ap (λ s. place s en') (strand ∙ ap (λ (q : Running). q.strand) task) ∙ ap (place r.strand) same ∙ sym (rank_is m en x r h))
         | inr ne ↦ rank_is n en' x r (other x r ne h) ∙ ap (place r.strand) same ∙ sym (rank_is m en x r h)
@@ -178,15 +179,15 @@ module _ (P : tree.Program) (m : Machine) (e : Event) (n : Machine) (en : List �
       let lt' : place r.strand en < place q.strand en = subst (λ i. i < place q.strand en) (rank_is m en x r hx) (subst (λ i. rank m en x < i) (rank_is m en y q hy) lt) in
       let t_rank : rank n en' e.task ≡ place z (put_after e.strand items en) = rank_is n en' e.task (acted k.step.task k.step.stop e.action) own ∙ ap (λ s. place s en') strand ∙ ap (place z) same in
       let o_rank : (i : ℕ) (p : Running) → i ≢ e.task → slice_get m.tasks i ≡ Some p → rank n en' i ≡ place p.strand (put_after e.strand items en) = λ i p ne h. rank_is n en' i p (other i p ne h) ∙ ap (place p.strand) same in
-      let here : (i : ℕ) (p : Running) → i ≡ e.task → slice_get m.tasks i ≡ Some p → p.strand ≡ e.strand = λ i p at h. (let task : k.step.task ≡ p = some_same k.step.task p (sym k.step.present ∙ subst (λ j. slice_get m.tasks j ≡ Some p) at h) in ap (λ (w : Running). w.strand) (sym task) ∙ k.step.strand) in
-      elim (same_or_not x e.task) [
-        | inl tx ↦ elim (same_or_not y e.task) [
+      let here : (i : ℕ) (p : Running) → i ≡ e.task → slice_get m.tasks i ≡ Some p → p.strand ≡ e.strand = λ i p at h. (let task : k.step.task ≡ p = same_Some k.step.task p (sym k.step.present ∙ subst (λ j. slice_get m.tasks j ≡ Some p) at h) in ap (λ (w : Running). w.strand) (sym task) ∙ k.step.strand) in
+      elim (cases_eq x e.task) [
+        | inl tx ↦ elim (cases_eq y e.task) [
           | inl ty ↦ absurd (let same_strand : place r.strand en ≡ place q.strand en = ap (λ s. place s en) (here x r tx hx ∙ sym (here y q ty hy)) in omega arith)
           | inr ny ↦ (
               let a : place z (put_after e.strand items en) < place q.strand (put_after e.strand items en) = anch.high q.strand ry (subst (λ s. place s en < place q.strand en) (here x r tx hx) lt') in
               subst (λ i. i < rank n en' y) (sym (ap (rank n en') tx ∙ t_rank)) (subst (λ i. place z (put_after e.strand items en) < i) (sym (o_rank y q ny hy)) a))
         ]
-        | inr nx ↦ elim (same_or_not y e.task) [
+        | inr nx ↦ elim (cases_eq y e.task) [
           | inl ty ↦ (
               let below : place r.strand en < place e.strand en = subst (λ s. place r.strand en < place s en) (here y q ty hy) lt' in
               let a : place r.strand (put_after e.strand items en) < place z (put_after e.strand items en) = anch.low r.strand rx (omega arith) in
@@ -201,7 +202,7 @@ module _ (P : tree.Program) (m : Machine) (e : Event) (n : Machine) (en : List �
   runs_on : (acted k.step.task k.step.stop e.action).value ≡ None → (xs : List ℕ) → ((t : ℕ) → Among t xs → (r : Running) × IsRunning m t r) → (t : ℕ) → Among t xs → (r : Running) × IsRunning n t r
   runs_on value xs runs t a =
       let r = runs t a in
-      elim (same_or_not t e.task) [
+      elim (cases_eq t e.task) [
         | inl at ↦ (acted k.step.task k.step.stop e.action, (subst (λ i. slice_get n.tasks i ≡ Some (acted k.step.task k.step.stop e.action)) (sym at) own, value))
         | inr ne ↦ (r.0, (other t r.0 ne r.1.0, r.1.1))
       ]
@@ -311,11 +312,11 @@ module _ (P : tree.Program) (m : Machine) (e : Event) (n : Machine) (en : List �
             (λ y a l. (
             let r = x.runs y a in
             let made_strand : r.0.strand < m.strands = k.apart.made y r.0 r.1.0 in
-            elim (same_or_not y e.task) [
+            elim (cases_eq y e.task) [
               | inl q ↦ absurd (let z : rank n en' y ≡ rank n en' e.task = ap (rank n en') q in omega arith)
               | inr ne ↦ (
                   let o_rank : rank n en' y ≡ place r.0.strand (put_after e.strand items en) = rank_is n en' y r.0 (other y r.0 ne r.1.0) ∙ ap (place r.0.strand) same in
-                  elim (lt_or_le (place e.strand en) (place r.0.strand en)) [
+                  elim (cases_lt (place e.strand en) (place r.0.strand en)) [
                     | inl hi ↦ absurd (let z : place cont (put_after e.strand items en) < place r.0.strand (put_after e.strand items en) = cont_anch.high r.0.strand made_strand hi in omega (arith, o_rank, t_rank))
                     | inr lo ↦ (let z : place r.0.strand (put_after e.strand items en) < place kid (put_after e.strand items en) = kid_anch.low r.0.strand made_strand lo in omega (arith, o_rank, c_rank))
                   ])
@@ -348,7 +349,7 @@ ready_step P past m e n (Ends value) k is x =
 leads_of : (P : tree.Program) (past : List Event) (m : Machine) → Came P past m → Leads P (opening P) (reverse past) m
 leads_of P [] m c = c
 leads_of P (e ∷ past) m (q, c, step) =
-    subst (λ h. Leads P (opening P) h m) (sym (Rattle.std.proofs.lemmas.List.reverse-append (e ∷ []) past)) (Rattle.task_machine.proofs.Leading.leads_further P (opening P) (reverse past) e q m (leads_of P past q c) step)
+    subst (λ h. Leads P (opening P) h m) (sym (reverse-append (e ∷ []) past)) (leads_further P (opening P) (reverse past) e q m (leads_of P past q c) step)
 
 first_rank : (P : tree.Program) → Ready (opening P) (0 ∷ []) (0 ∷ [])
 first_rank P =
@@ -378,7 +379,7 @@ ready_is_first P h m t ts l e =
     let en = english_past (past_of h) in
     let s : Sorted (rank m en) (t ∷ ts) = subst (Sorted (rank m en)) e x.sorted in
     let r = x.runs t (subst (Among t) (sym e) (inl refl)) in
-    let whole : Whole m.strands en = subst (λ i. Whole i en) ((Rattle.run_laws.proofs.Mirrored.mirrors P h m l).strands) (whole_en (past_of h) (Rattle.run_laws.proofs.Sound.sound_past P h m l)) in (
+    let whole : Whole m.strands en = subst (λ i. Whole i en) ((mirrors P h m l).strands) (whole_en (past_of h) (sound_past P h m l)) in (
       r.0,
       record {
         running = r.1;
@@ -410,7 +411,7 @@ pub none_is_ready : NoneIsReady
 none_is_ready P h m l =
     let x = ready P h m l in (
       λ e. each_ended m.tasks (λ t r g v. (let a : Among t [] = subst (Among t) e (x.all t r (g, v)) in absurd a)),
-      λ all. nothing_in (ready_of h) (λ t a. (let r = x.runs t a in not_both r.0.value r.1.1 (Rattle.run_laws.proofs.Once.ended_at m.tasks t r.0 all r.1.0))),
+      λ all. nothing_in (ready_of h) (λ t a. (let r = x.runs t a in not_both r.0.value r.1.1 (ended_at m.tasks t r.0 all r.1.0))),
     )
 
 pub first_may_go_on : FirstMayGoOn

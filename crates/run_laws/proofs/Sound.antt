@@ -1,6 +1,7 @@
 -- The structure of a legal history is sound.
 use Rattle.std.proofs.Common.{◌≡◌, ℕ, ◌+◌, Bool, true, false, List, [], ◌∷◌, inl, inr, refl, sym, ap, ◌∙◌, subst}
 use Rattle.std.specs.Prelude.{Option, Some, None, IsSome, is_some, option_map, option_and_then, reverse, slice_get}
+use Rattle.std.proofs.lemmas.Bool.{cases_Bool}
 use Rattle.fut_base.specs.declared.record.Value.{Value}
 use Rattle.fut_base.specs.declared.event.Event.{Event}
 use Rattle.fut_base.specs.declared.event.Action.{Action}
@@ -13,7 +14,7 @@ use Rattle.task_machine.specs.State.{Wish, ToEnd, wish_of, Answers}
 use Rattle.task_machine.specs.Machine.{Machine, Running, opening, ended_with, AllHaveEnded, Permits, IsStep, Leads}
 use Rattle.run_laws.specs.Laws.{Mirrors, LegalIsSound, past_of}
 use Rattle.run_laws.proofs.Pasts.{Came, came, kept_of, past_is}
-use Rattle.run_laws.proofs.Mirrored.{tested, kept_on, kept_off, came_mirrors}
+use Rattle.run_laws.proofs.Mirrored.{kept_on, kept_off, came_mirrors}
 use Rattle.run_laws.proofs.Handles.{Each, HandsOut, stands_all, wish_all}
 use Rattle.run_laws.proofs.Holding.{Holder, AllHold, is_filled, numbers, came_holds}
 
@@ -94,7 +95,7 @@ may_follow P past m n e x h st step =
 pub came_sound : (P : tree.Program) (past : List Event) (m : Machine) → Came P past m → IsSoundPast (kept_of past)
 came_sound P [] m c = tt
 came_sound P (e ∷ past) m (q, c, step) =
-    elim (tested (structural e.action)) [
+    elim (cases_Bool (structural e.action)) [
       | inl st ↦ subst IsSoundPast (sym (kept_on past e st)) (came_sound P past q c, may_follow P (kept_of past) q m e (came_mirrors P past q c) (came_holds P past q c) st step)
       | inr off ↦ subst IsSoundPast (sym (kept_off past e off)) (came_sound P past q c)
     ]

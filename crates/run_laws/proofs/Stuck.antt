@@ -3,6 +3,9 @@ use Rattle.std.proofs.Common.{◌≡◌, ◌≢◌, ℕ, zero, suc, ◌+◌, ◌
 use Rattle.std.specs.Prelude.{ℤ, pos, negsuc, Option, Some, None, IsSome, is_some, option_map, option_and_then, bytes_eq, slice_get}
 use Rattle.std.proofs.lemmas.Nat.{mod_below}
 use Rattle.std.proofs.Math.ListN.{length-set}
+use Rattle.std.proofs.lemmas.Option.{same_Some}
+use Rattle.std.proofs.lemmas.Bool.{cases_eq, cases_lt}
+use Rattle.fut_base.specs.declared.limits.TheConstants.{MOST_LOCAL_STEPS}
 use Rattle.fut_base.specs.declared.record.Value.{Value}
 use Rattle.fut_base.specs.declared.record.Value.TheVariants.{Int, Fut}
 use Rattle.fut_base.specs.declared.event.Event.{Event}
@@ -24,9 +27,8 @@ use Rattle.strand_laws.specs.Laws.{IsLeast}
 use Rattle.strand_laws.proofs.Held.{is_root}
 use Rattle.strand_laws.proofs.Least.{least_waits_for_none}
 use Rattle.strand_laws.proofs.Links.{ev}
-use Rattle.strand_laws.proofs.Places.{place, one_place, before_place, place_before, same_or_not}
+use Rattle.strand_laws.proofs.Places.{place, one_place, before_place, place_before}
 use Rattle.strand_laws.proofs.Sources.{whole_en}
-use Rattle.strand_laws.proofs.Worlds.{lt_or_le}
 use Rattle.run_laws.specs.Laws.{Mirrors, past_of, HasCells, IsFirst, FirstExists, FirstIsOne, NoneIsStuck}
 use Rattle.run_laws.proofs.Mirrored.{mirrors}
 use Rattle.run_laws.proofs.Handles.{HandsOut, stands_all, wish_all}
@@ -62,11 +64,8 @@ index_below : (n : ℕ) (z : ℤ) → 0 < n → index_of n z < n
 index_below n (pos a) h = mod_below a n h
 index_below n (negsuc a) h = let k : a % n < n = mod_below a n h in omega arith
 
-some_same : {X : Type 0} (x y : X) → Some x ≡ Some y → x ≡ y
-some_same x y h = cc
-
 found_if : (b : Bool) (x : ℕ) (o : Option ℕ) (cell : ℕ) → (if b then Some x else o) ≡ Some cell → (x ≡ cell) ⊎ (o ≡ Some cell)
-found_if true x o cell h = inl (some_same x cell h)
+found_if true x o cell h = inl (same_Some x cell h)
 found_if false x o cell h = inr h
 
 found_below : (n : ℕ) (items : List tree.Item) (word : List ℕ) (z : ℤ) (cell : ℕ) → ((a : CellArray) → Among a (arrays_from n items) → 0 < a.length) → find_cell (arrays_from n items) word z ≡ Some cell → cell < n + count_cells items
@@ -137,7 +136,7 @@ module _ (P : tree.Program) (f : HasCells P) where
   pub wish_below : (s : TaskState) → AccessesBelow (cell_count P) (wish_of P s)
   wish_below s = todo_below s s.todo
 
-cells_stay : (a : Action) (cells : List ℤ) → length (cells_after a cells) ≡ length cells
+pub cells_stay : (a : Action) (cells : List ℤ) → length (cells_after a cells) ≡ length cells
 cells_stay (Reads _ _) cells = refl
 cells_stay (Writes cell value) cells = length-set cells cell value
 cells_stay (Spawns _ _ _ _ _) cells = refl
@@ -177,11 +176,11 @@ module _ (P : tree.Program) (h : List Event) (m : Machine) (l : Leads P (opening
         stands = me.strand;
         runs = me.last ∙ ap (λ o. option_map (λ (v : Value). r.strand) o) x.running.1;
         least = λ q a at runs. (
-            elim (lt_or_le q (length m.tasks)) [
+            elim (cases_lt q (length m.tasks)) [
               | inl lt ↦ (
                   let o = get_some m.tasks q lt in
                   let it = k.each q o.0 o.1 in
-                  let same : o.0.strand ≡ a = some_same o.0.strand a (sym it.strand ∙ at) in
+                  let same : o.0.strand ≡ a = same_Some o.0.strand a (sym it.strand ∙ at) in
                   let run : o.0.value ≡ None = option_none o.0.value o.0.strand (sym it.last ∙ runs) in
                   elim (x.least q o.0 (o.1, run)) [
                     | inl e ↦ inl e
@@ -249,7 +248,7 @@ module _ (P : tree.Program) (h : List Event) (m : Machine) (l : Leads P (opening
 
 pub none_is_stuck : NoneIsStuck
 none_is_stuck P h m t r l f x wishes =
-    elim (stands_or_out 1000000 refl r.state) [
+    elim (stands_or_out MOST_LOCAL_STEPS refl r.state) [
       | inl k ↦ inr (allowed P h m l f t r x k.0 k.1 (wish_of P k.0) refl (wishes k.0 k.1))
       | inr out ↦ inl out
     ]
@@ -269,28 +268,28 @@ module _ (rank : Running → ℕ) (r : Running) (rs : List Running) where
   after_ended w done = record { place = suc w.place; task = w.task; present = w.present; runs = w.runs; low = low }
     where
       low : (u : ℕ) (q : Running) → slice_get (r ∷ rs) u ≡ Some q → q.value ≡ None → rank w.task ≤ rank q
-      low zero q g run = absurd (let e : r ≡ q = some_same r q g in not_both r.value (ap (λ (z : Running). z.value) e ∙ run) done)
+      low zero q g run = absurd (let e : r ≡ q = same_Some r q g in not_both r.value (ap (λ (z : Running). z.value) e ∙ run) done)
       low (suc u) q g run = w.low u q g run
 
   alone : r.value ≡ None → EachEnded rs → Lowest rank (r ∷ rs)
   alone run all = record { place = 0; task = r; present = refl; runs = run; low = low }
     where
       low : (u : ℕ) (q : Running) → slice_get (r ∷ rs) u ≡ Some q → q.value ≡ None → rank r ≤ rank q
-      low zero q g runs = let e : rank r ≡ rank q = ap rank (some_same r q g) in omega arith
+      low zero q g runs = let e : rank r ≡ rank q = ap rank (same_Some r q g) in omega arith
       low (suc u) q g runs = absurd (not_both q.value runs (ended_at rs u q all g))
 
   lower : r.value ≡ None → (w : Lowest rank rs) → rank r ≤ rank w.task → Lowest rank (r ∷ rs)
   lower run w le = record { place = 0; task = r; present = refl; runs = run; low = low }
     where
       low : (u : ℕ) (q : Running) → slice_get (r ∷ rs) u ≡ Some q → q.value ≡ None → rank r ≤ rank q
-      low zero q g runs = let e : rank r ≡ rank q = ap rank (some_same r q g) in omega arith
+      low zero q g runs = let e : rank r ≡ rank q = ap rank (same_Some r q g) in omega arith
       low (suc u) q g runs = let k : rank w.task ≤ rank q = w.low u q g runs in omega arith
 
   higher : (w : Lowest rank rs) → rank w.task ≤ rank r → Lowest rank (r ∷ rs)
   higher w le = record { place = suc w.place; task = w.task; present = w.present; runs = w.runs; low = low }
     where
       low : (u : ℕ) (q : Running) → slice_get (r ∷ rs) u ≡ Some q → q.value ≡ None → rank w.task ≤ rank q
-      low zero q g runs = let e : rank r ≡ rank q = ap rank (some_same r q g) in omega arith
+      low zero q g runs = let e : rank r ≡ rank q = ap rank (same_Some r q g) in omega arith
       low (suc u) q g runs = w.low u q g runs
 
 ended_or_not : (o : Option Value) → IsSome o ⊎ (o ≡ None)
@@ -298,7 +297,7 @@ ended_or_not None = inr refl
 ended_or_not (Some v) = inl refl
 
 le_or_le : (a b : ℕ) → (a ≤ b) ⊎ (b ≤ a)
-le_or_le a b = elim (lt_or_le a b) [ inl h ↦ inl (omega arith) | inr h ↦ inr h ]
+le_or_le a b = elim (cases_lt a b) [ inl h ↦ inl (omega arith) | inr h ↦ inr h ]
 
 lowest : (rank : Running → ℕ) (rs : List Running) → EachEnded rs ⊎ Lowest rank rs
 lowest rank [] = inl tt
@@ -326,7 +325,7 @@ module _ (P : tree.Program) (h : List Event) (m : Machine) (l : Leads P (opening
       record {
         running = (w.present, w.runs);
         least = λ q o run. (
-            elim (same_or_not q w.place) [
+            elim (cases_eq q w.place) [
               | inl e ↦ inl e
               | inr ne ↦ inr (
                   let en : List ℕ = english_past (past_of h) in
@@ -346,7 +345,7 @@ module _ (P : tree.Program) (h : List Event) (m : Machine) (l : Leads P (opening
         | inl e ↦ sym e
         | inr b ↦ elim (y.least t r x.running) [
           | inl e ↦ e
-          | inr b' ↦ elim (same_or_not r.strand q.strand) [
+          | inr b' ↦ elim (cases_eq r.strand q.strand) [
             | inl e ↦ (apart P h m l).own t u r q x.running.0 y.running.0 e
             | inr ne ↦ absurd (
                 let k : place r.strand (english_past (past_of h)) < place q.strand (english_past (past_of h)) = before_place r.strand q.strand (english_past (past_of h)) ne b in

@@ -1,5 +1,5 @@
 -- Where the run stops is the fault. Nothing here names a symbol.
-use Rattle.std.proofs.Common.{◌≡◌, ℕ, zero, suc, ◌-◌, ◌<◌, ◌≤◌, List, [], ◌∷◌, ◌++◌, ◌⊎◌, inl, inr, refl, sym, subst, ap, ◌∙◌, append_assoc, append-nil, length, length-append, take, arith, ⊎_elim}
+use Rattle.std.proofs.Common.{◌≡◌, ℕ, zero, suc, ◌-◌, ◌<◌, ◌≤◌, List, [], ◌∷◌, ◌++◌, ◌⊎◌, inl, inr, refl, sym, subst, ap, ◌∙◌, append_assoc, append-nil, length, length-append, take, arith, ⊎_elim, take_at}
 use Rattle.std.specs.Prelude.{Option, Some, None}
 use Rattle.run_record.specs.RunText.{run_text}
 use Rattle.run_record.specs.Records.{IsSomeRunText, Begins, IsFault}
@@ -66,10 +66,6 @@ some_none : {X : Type 0} (o : Option X) (x : X) → o ≡ Some x → o ≡ None 
 some_none None x e f = absurd (cc)
 some_none (Some y) x e f = absurd (cc)
 
-take_front : (p rest : List ℕ) → take (length p) (p ++ rest) ≡ p
-take_front [] rest = refl
-take_front (x ∷ p) rest = ap (λ q. x ∷ q) (take_front p rest)
-
 -- one byte more than a front
 take_next : (p : List ℕ) (x : ℕ) (more : List ℕ) (n : ℕ) → length p < n → (q : List ℕ) × (take n (p ++ x ∷ more) ≡ p ++ x ∷ q)
 take_next [] x more zero h = absurd (omega arith)
@@ -103,6 +99,6 @@ fault xs left e =
     record {
       none = λ t. some_none (run all_due xs) left e (passes_through xs t);
       within = omega arith;
-      begins = subst Begins (sym (ap (λ n. take n xs) count ∙ ap (λ q. take (length r.before) q) r.whole ∙ take_front r.before r.rest)) (begins r.before r.due r.walked);
+      begins = subst Begins (sym (ap (λ n. take n xs) count ∙ ap (λ q. take (length r.before) q) r.whole ∙ take_at r.before r.rest (length r.before) refl)) (begins r.before r.due r.walked);
       longest = λ n small b. let most = none_longer xs r.before r.rest r.due r.whole r.walked r.bad n small b in omega (arith, most, count);
     }

@@ -1,5 +1,6 @@
 -- A text is the run text of one value.
-use Rattle.std.proofs.Common.{◌≡◌, ℕ, zero, suc, ◌+◌, ◌<◌, ◌≤◌, ◌^◌, cond, nat_eq, List, [], ◌∷◌, ◌++◌, length, take, drop, get_or, refl, sym, ap, ◌∙◌, append_assoc, append-nil, arith, decimal, codes}
+use Rattle.std.proofs.Common.{◌≡◌, ℕ, zero, suc, ◌+◌, ◌<◌, ◌≤◌, ◌^◌, cond, nat_eq, List, [], ◌∷◌, ◌++◌, length, take, drop, get_or, refl, sym, ap, ◌∙◌, append_assoc, append-nil, arith, decimal, codes, take_at}
+use Rattle.run_record.specs.declared.bounds.TheConstants.{MOST_RACES}
 use Rattle.fut_base.specs.declared.event.Event.{Event}
 use Rattle.fut_base.specs.declared.event.Action.{Action}
 use Rattle.fut_base.specs.declared.record.Race.{Race}
@@ -84,15 +85,11 @@ behind_program p xs = number_then (λ n r. events_then n (λ es s. behind_races 
 whole_at : List ℕ → Whole
 whole_at xs = number_then (λ n r. behind_program (take n (drop 1 r)) (drop n (drop 1 r))) (drop 17 xs)
 
-take_front : (p r : List ℕ) → take (length p) (p ++ r) ≡ p
-take_front [] r = refl
-take_front (x ∷ p) r = ap (λ q. x ∷ q) (take_front p r)
-
 drop_front : (p r : List ℕ) → drop (length p) (p ++ r) ≡ r
 drop_front [] r = refl
 drop_front (x ∷ p) r = drop_front p r
 
-races_part : (p : List ℕ) (es : List Event) (rs : List Race) (f : Finish) → length rs ≤ 65536 → AreRaces rs → IsFinish f → behind_races p es (report_text rs ++ last_text f) ≡ (p, es, rs, f)
+races_part : (p : List ℕ) (es : List Event) (rs : List Race) (f : Finish) → length rs ≤ MOST_RACES → AreRaces rs → IsFinish f → behind_races p es (report_text rs ++ last_text f) ≡ (p, es, rs, f)
 unfolding behind_races
 races_part p es rs f few h end =
     ap (λ q. number_then (λ n r. races_then n (λ rs s. (p, es, rs, finish_at (drop 7 s))) (drop 1 r)) (drop 6 q)) joined
@@ -124,7 +121,7 @@ whole_back p es rs f w =
     sym (append-nil (run_text p es rs f)) ∙ sym (whole_is p es rs f []) ∙ ap (λ q. program_text p ++ (history_text es ++ (report_text rs ++ q))) (append-nil (last_text f)) ∙ joined rest in
     ap (λ q. number_then (λ n r. behind_program (take n (drop 1 r)) (drop n (drop 1 r))) (drop 17 q)) text
     ∙ number_back (λ n r. behind_program (take n (drop 1 r)) (drop n (drop 1 r))) (length p) 10 (p ++ rest) (omega (arith, short)) (omega arith)
-    ∙ ap (λ q. behind_program q (drop (length p) (p ++ rest))) (take_front p rest)
+    ∙ ap (λ q. behind_program q (drop (length p) (p ++ rest))) (take_at p rest (length p) refl)
     ∙ ap (λ q. behind_program p q) (drop_front p rest)
     ∙ program_part p es rs f w
   where

@@ -1,6 +1,8 @@
 -- The bytes that a symbol stands for, in front of others.
 use Rattle.std.proofs.Common.{◌≡◌, ℕ, zero, suc, ◌+◌, ◌<◌, ◌≤◌, ◌⊎◌, ℤ, List, [], ◌∷◌, ◌++◌, length, refl, sym, ap, ◌∙◌, append_assoc, arith, decimal, codes}
 use Rattle.std.specs.Fmt.{signed_decimal}
+use Rattle.run_record.specs.declared.bounds.TheConstants.{MOST_RACES}
+use Rattle.fut_base.specs.declared.limits.TheConstants.{MOST_PROGRAM_BYTES, MOST_ENTRIES}
 use Rattle.fut_base.specs.declared.event.Event.{Event}
 use Rattle.fut_base.specs.declared.event.Action.{Action}
 use Rattle.fut_base.specs.declared.record.Value.{Value}
@@ -123,7 +125,7 @@ bytes_phrase (suc n) xs r h = let p = bytes_phrase n h.0 r h.2 in (h.1.0 ∷ p.0
 headed : (w : List ℕ) (n k : ℕ) (xs m rest body end r : List ℕ) → xs ≡ w ++ m → m ≡ decimal n ++ rest → rest ≡ 10 ∷ (body ++ end) → end ≡ r → k ≡ n → xs ≡ w ++ (decimal k ++ (10 ∷ (body ++ r)))
 headed w n k xs m rest body end r a b c d e = a ∙ ap (λ q. w ++ q) (b ∙ ap (λ q. decimal n ++ q) (c ∙ ap (λ q. 10 ∷ (body ++ q)) d) ∙ ap (λ j. decimal j ++ (10 ∷ (body ++ r))) (sym e))
 
-pub program_phrase : (xs r : List ℕ) → Phrases program_due xs r → (p : List ℕ) × (length p ≤ 1048576) × (xs ≡ program_text p ++ r)
+pub program_phrase : (xs r : List ℕ) → Phrases program_due xs r → (p : List ℕ) × (length p ≤ MOST_PROGRAM_BYTES) × (xs ≡ program_text p ++ r)
 program_phrase xs r h =
     let w = codes "forder 1\nprogram " in
     let front = split_word w (Number kind.Bytes ∷ []) xs r h in
@@ -135,7 +137,7 @@ program_phrase xs r h =
     joined : (p r : List ℕ) → codes "forder 1\nprogram " ++ (decimal (length p) ++ (10 ∷ (p ++ r))) ≡ program_text p ++ r
     joined p r = simp append_assoc
 
-pub history_phrase : (xs r : List ℕ) → Phrases history_due xs r → (es : List Event) × (length es ≤ 1000000) × AreEvents es × (xs ≡ history_text es ++ r)
+pub history_phrase : (xs r : List ℕ) → Phrases history_due xs r → (es : List Event) × (length es ≤ MOST_ENTRIES) × AreEvents es × (xs ≡ history_text es ++ r)
 history_phrase xs r h =
     let w = codes "\nentries " in
     let front = split_word w (Number kind.Entries ∷ []) xs r h in
@@ -151,7 +153,7 @@ history_phrase xs r h =
     joined : (es : List Event) (r : List ℕ) → codes "\nentries " ++ (decimal (length es) ++ (10 ∷ (entry_lines 0 es ++ r))) ≡ history_text es ++ r
     joined es r = simp append_assoc
 
-pub report_phrase : (xs r : List ℕ) → Phrases report_due xs r → (rs : List Race) × (length rs ≤ 65536) × AreRaces rs × (xs ≡ report_text rs ++ r)
+pub report_phrase : (xs r : List ℕ) → Phrases report_due xs r → (rs : List Race) × (length rs ≤ MOST_RACES) × AreRaces rs × (xs ≡ report_text rs ++ r)
 report_phrase xs r h =
     let w = codes "races " in
     let front = split_word w (Number kind.Races ∷ []) xs r h in

@@ -3,6 +3,7 @@ use Rattle.std.proofs.Common.{◌≡◌, ℕ, suc, ◌+◌, ◌-◌, ◌%◌, �
 use Rattle.std.specs.Fmt.{signed_decimal}
 use Rattle.std.proofs.lemmas.Bool.Decides.{nat_tests}
 use Rattle.std.proofs.lemmas.Fmt.{decimal_by_steps, first_decimal}
+use Rattle.run_record.specs.declared.bounds.TheConstants.{MOST_ARGUMENTS}
 use Rattle.fut_base.specs.declared.event.Event.{Event}
 use Rattle.fut_base.specs.declared.event.Action.{Action}
 use Rattle.fut_base.specs.declared.event.Action.TheVariants.{Reads, Writes, Spawns, Creates, Syncs, Gets, Ends}
@@ -150,10 +151,10 @@ call_goes w code child kid cont args r h =
     let l = lined args r in
     let tail = values_line args ++ r in
     moved (joined w code child kid cont args r)
-    (after (word_due w) (word_due (codes " t") ++ (word_due (codes " s") ++ (word_due (codes " s") ++ (Arguments 16 ∷ [])))) (word_goes w code 32 _ h.0 (omega arith))
-    (after (word_due (codes " t")) (word_due (codes " s") ++ (word_due (codes " s") ++ (Arguments 16 ∷ []))) (word_goes (codes " t") child 32 _ h.1 (omega arith))
-    (after (word_due (codes " s")) (word_due (codes " s") ++ (Arguments 16 ∷ [])) (word_goes (codes " s") kid 32 _ h.2 (omega arith))
-    (after (word_due (codes " s")) (Arguments 16 ∷ []) (moved (ap (λ q. codes " s" ++ (decimal cont ++ q)) l.is) (word_goes (codes " s") cont l.first l.others h.3 l.low))
+    (after (word_due w) (word_due (codes " t") ++ (word_due (codes " s") ++ (word_due (codes " s") ++ (Arguments MOST_ARGUMENTS ∷ [])))) (word_goes w code 32 _ h.0 (omega arith))
+    (after (word_due (codes " t")) (word_due (codes " s") ++ (word_due (codes " s") ++ (Arguments MOST_ARGUMENTS ∷ []))) (word_goes (codes " t") child 32 _ h.1 (omega arith))
+    (after (word_due (codes " s")) (word_due (codes " s") ++ (Arguments MOST_ARGUMENTS ∷ [])) (word_goes (codes " s") kid 32 _ h.2 (omega arith))
+    (after (word_due (codes " s")) (Arguments MOST_ARGUMENTS ∷ []) (moved (ap (λ q. codes " s" ++ (decimal cont ++ q)) l.is) (word_goes (codes " s") cont l.first l.others h.3 l.low))
     (moved (sym l.is) (arguments_go args 16 r h.4 h.5))))))
   where
     joined : (w : List ℕ) (code child kid cont : ℕ) (args : List Value) (r : List ℕ) → (w ++ call_line code child kid cont args) ++ r

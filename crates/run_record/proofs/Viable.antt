@@ -3,6 +3,8 @@ use Rattle.std.proofs.Common.{◌≡◌, ℕ, zero, suc, ◌+◌, ◌-◌, ◌*�
 use Rattle.std.specs.Fmt.{signed_decimal}
 use Rattle.std.proofs.lemmas.Bool.Decides.{nat_tests}
 use Rattle.std.proofs.lemmas.Fmt.{decimal_digit}
+use Rattle.std.proofs.lemmas.Bool.{and_parts}
+use Rattle.run_record.specs.declared.bounds.TheConstants.{MOST_ARGUMENTS}
 use Rattle.fut_base.specs.declared.event.Event.{Event}
 use Rattle.fut_base.specs.declared.event.Action.{Action}
 use Rattle.fut_base.specs.declared.event.Action.TheVariants.{Reads, Writes, Spawns, Creates, Syncs, Gets, Ends}
@@ -46,10 +48,6 @@ low_is x e = grind (arith, nat_tests)
 high_is : (x : ℕ) → (nat_le 49 x && nat_le x 57) ≡ true → x ≤ 57
 high_is x e = grind (arith, nat_tests)
 
-both : (a b : Bool) → (a && b) ≡ true → (a ≡ true) × (b ≡ true)
-both true b e = (refl, e)
-both false b e = absurd (cc)
-
 byte_builds : (b x : ℕ) → Builds (Byte b) x (rule (Byte b) x)
 byte_builds b x = by_if (Byte b) x (nat_eq x b) [] (λ e xs r h. ap (λ q. x ∷ q) h ∙ ap (λ (c : ℕ). c ∷ r) (same_byte x b e))
 
@@ -88,8 +86,8 @@ behind_builds kind.Races n x = by_if (Digits kind.Races n) x (nat_eq x 10) (race
 digits_builds : (k : Kind) (n x : ℕ) → Builds (Digits k n) x (digits_rule k n x)
 digits_builds k n x = by_cond (Digits k n) x (is_more k n x) (Takes (Digits k (n * 10 + (x - 48)) ∷ [])) (behind_rule k n x)
     (λ e xs r h.
-    let one = both (nat_lt 0 n) (is_digit x && nat_le (n * 10 + (x - 48)) (bound k)) e in
-    let two = both (is_digit x) (nat_le (n * 10 + (x - 48)) (bound k)) one.1 in
+    let one = and_parts (nat_lt 0 n) (is_digit x && nat_le (n * 10 + (x - 48)) (bound k)) e in
+    let two = and_parts (is_digit x) (nat_le (n * 10 + (x - 48)) (bound k)) one.1 in
     let d = h.1 in
     let low = digit_low x two.0 in
     let high = digit_high x two.0 in
@@ -151,7 +149,7 @@ arguments_builds : (left x : ℕ) → Builds (Arguments left) x (arguments_rule 
 arguments_builds left x = by_cond (Arguments left) x (nat_eq x 10) (Takes []) (takes_if (nat_eq x 32 && nat_lt 0 left) (Datum ∷ Arguments (left - 1) ∷ []))
     (λ e xs r h. ([], omega arith, tt, ap (λ q. x ∷ q) h ∙ ap (λ (b : ℕ). b ∷ r) (same_byte x 10 e)))
     (λ e. by_if (Arguments left) x (nat_eq x 32 && nat_lt 0 left) (Datum ∷ Arguments (left - 1) ∷ []) (λ e xs r h.
-    let two = both (nat_eq x 32) (nat_lt 0 left) e in
+    let two = and_parts (nat_eq x 32) (nat_lt 0 left) e in
     let v = h.1 in
     let vs = h.2.1 in
     let some : 0 < left = grind (arith, nat_tests) in
@@ -184,10 +182,10 @@ record Called (w xs r : List ℕ) : Type 0 where
 -- a spawn or a create behind its first letters
 call_phrase : (w xs r : List ℕ) → Phrases (call_due w) xs r → Called w xs r
 call_phrase w xs r h =
-    let code = split_number w (word_due (codes " t") ++ (word_due (codes " s") ++ (word_due (codes " s") ++ (Arguments 16 ∷ [])))) xs r h in
-    let child = split_number (codes " t") (word_due (codes " s") ++ (word_due (codes " s") ++ (Arguments 16 ∷ []))) code.1 r code.4 in
-    let kid = split_number (codes " s") (word_due (codes " s") ++ (Arguments 16 ∷ [])) child.1 r child.4 in
-    let cont = split_number (codes " s") (Arguments 16 ∷ []) kid.1 r kid.4 in
+    let code = split_number w (word_due (codes " t") ++ (word_due (codes " s") ++ (word_due (codes " s") ++ (Arguments MOST_ARGUMENTS ∷ [])))) xs r h in
+    let child = split_number (codes " t") (word_due (codes " s") ++ (word_due (codes " s") ++ (Arguments MOST_ARGUMENTS ∷ []))) code.1 r code.4 in
+    let kid = split_number (codes " s") (word_due (codes " s") ++ (Arguments MOST_ARGUMENTS ∷ [])) child.1 r child.4 in
+    let cont = split_number (codes " s") (Arguments MOST_ARGUMENTS ∷ []) kid.1 r kid.4 in
     let args = cont.4.1 in
     record {
       code = code.0;

@@ -1,17 +1,18 @@
 -- The run text as a machine with a stack, one byte at a time.
-use Rattle.std.specs.Prelude.{ℕ, suc, zero, ◌+◌, ◌-◌, ◌*◌, Bool, List, [], ◌∷◌, ◌++◌, map, length, Option, Some, None, cond, nat_eq, nat_lt, nat_le, ◌&&◌, codes, decimal}
-use Rattle.run_record.specs.Records.{most_program, most_entries, most_races}
+use Rattle.std.specs.Prelude.{ℕ, suc, zero, ◌+◌, ◌-◌, ◌*◌, ◌^◌, Bool, List, [], ◌∷◌, ◌++◌, map, length, Option, Some, None, cond, nat_eq, nat_lt, nat_le, ◌&&◌, codes, decimal}
+use Rattle.fut_base.specs.declared.limits.TheConstants.{MOST_PROGRAM_BYTES, MOST_ENTRIES}
+use Rattle.run_record.specs.declared.bounds.TheConstants.{MOST_ARGUMENTS, MOST_RACES}
 use Rattle.run_record.specs.declared.digits.Kind.{Kind}
 use Rattle.run_record.specs.declared.digits.Kind.TheVariants as kind
 
 -- the greatest number of a kind
 abbrev pub bound : Kind → ℕ
-bound kind.Plain = 4294967295
-bound kind.Positive = 9223372036854775807
-bound kind.Negative = 9223372036854775808
-bound kind.Bytes = most_program
-bound kind.Entries = most_entries
-bound kind.Races = most_races
+bound kind.Plain = 2 ^ 32 - 1
+bound kind.Positive = 2 ^ 63 - 1
+bound kind.Negative = 2 ^ 63
+bound kind.Bytes = MOST_PROGRAM_BYTES
+bound kind.Entries = MOST_ENTRIES
+bound kind.Races = MOST_RACES
 
 -- what is still due
 pub data Symbol : Type 0 where
@@ -119,7 +120,7 @@ access_due word = word_due word ++ (due (codes " ") ++ (Signed ∷ due (codes "\
 -- a spawn or a create behind its first letters
 abbrev pub call_due : List ℕ → List Symbol
 call_due word =
-    word_due word ++ (word_due (codes " t") ++ (word_due (codes " s") ++ (word_due (codes " s") ++ (Arguments 16 ∷ []))))
+    word_due word ++ (word_due (codes " t") ++ (word_due (codes " s") ++ (word_due (codes " s") ++ (Arguments MOST_ARGUMENTS ∷ []))))
 
 abbrev pub get_due : List Symbol
 get_due = word_due (codes "et f") ++ (due (codes " ") ++ (Datum ∷ numbered_due (codes " s")))

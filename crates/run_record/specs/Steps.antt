@@ -2,6 +2,7 @@
 use denote.Ref.{Bor}
 use Rattle.std.specs.Prelude.{◌≡◌, ℕ, ◌≤◌, Bool, true, false, List, [], ◌∷◌, ◌++◌, length, Option, Some, None, Result, Ok, Err, decimal, codes}
 use Rattle.std.specs.Fmt.{signed_decimal}
+use Rattle.fut_base.specs.declared.limits.TheConstants.{MOST_PROGRAM_BYTES, MOST_ENTRIES}
 use Rattle.fut_base.specs.Listed.{Listed}
 use Rattle.fut_base.specs.Events.{events_of}
 use Rattle.fut_base.specs.declared.event.Event.{Event}
@@ -15,7 +16,8 @@ use Rattle.run_record.specs.declared.digits.Kind.{Kind}
 use Rattle.run_record.specs.declared.digits.Kind.TheVariants as kind
 use Rattle.run_record.specs.declared.record.RunText.{RunText}
 use Rattle.run_record.specs.RunText.{call_line, entry_lines, race_lines, run_text}
-use Rattle.run_record.specs.Records.{most_program, most_entries, most_races, most_args, IsNumber, IsSigned, AreValues, IsCall, AreEvents, AreRaces, IsWithin}
+use Rattle.run_record.specs.declared.bounds.TheConstants.{MOST_ARGUMENTS, MOST_RACES}
+use Rattle.run_record.specs.Records.{IsNumber, IsSigned, AreValues, IsCall, AreEvents, AreRaces, IsWithin}
 use Rattle.run_record.specs.Machine.{Symbol, Number, Digits, due, run, is_more, bound, bytes_due, entries_due, races_due}
 
 abbrev pub front : List ℕ → Option ℕ
@@ -125,7 +127,7 @@ as_line word n = word ++ (decimal n ++ codes "\n")
 
 -- at most 16 values
 abbrev pub AreArguments : List Value → Type 0
-AreArguments vs = (length vs ≤ most_args) × AreValues vs
+AreArguments vs = (length vs ≤ MOST_ARGUMENTS) × AreValues vs
 
 abbrev pub access_text : List ℕ → Access → List ℕ
 access_text word a = word ++ (decimal a.cell ++ (codes " " ++ (signed_decimal a.value ++ codes "\n")))
@@ -150,21 +152,21 @@ abbrev pub program_text : List ℕ → List ℕ
 program_text program = codes "forder 1\nprogram " ++ (decimal (length program) ++ (codes "\n" ++ program))
 
 abbrev pub IsProgram : List ℕ → Type 0
-IsProgram program = length program ≤ most_program
+IsProgram program = length program ≤ MOST_PROGRAM_BYTES
 
 -- the count of the entries, and the entries
 abbrev pub history_text : List Event → List ℕ
 history_text es = codes "\nentries " ++ (decimal (length es) ++ (codes "\n" ++ entry_lines 0 es))
 
 abbrev pub IsHistory : List Event → Type 0
-IsHistory es = (length es ≤ most_entries) × AreEvents es
+IsHistory es = (length es ≤ MOST_ENTRIES) × AreEvents es
 
 -- the count of the races, and the races
 abbrev pub report_text : List Race → List ℕ
 report_text rs = codes "races " ++ (decimal (length rs) ++ (codes "\n" ++ race_lines rs))
 
 abbrev pub IsReport : List Race → Type 0
-IsReport rs = (length rs ≤ most_races) × AreRaces rs
+IsReport rs = (length rs ≤ MOST_RACES) × AreRaces rs
 
 -- what the parts of a run text say
 abbrev pub whole_text : RunText → List ℕ

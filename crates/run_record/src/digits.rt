@@ -6,7 +6,9 @@ ghost use Rattle.run_record.specs.Records.{IsNumber};
 ghost use Rattle.run_record.specs.Steps.{Grew, ReadNumber, ReadCount, Read, same, with_word, as_line, is_count};
 ghost use Rattle.run_record.specs.Machine.{numbered_due, word_due};
 
+use crate::bounds::MOST_RACES;
 use crate::cursor::{Cursor, Stop, expect};
+use fut_base::limits::{MOST_ENTRIES, MOST_PROGRAM_BYTES};
 
 /// What a number is, by which it has its greatest value.
 #[derive(Clone, Copy, Debug, PartialEq, Eq)]
@@ -29,12 +31,12 @@ impl Kind {
         ensures { result ≡ bound self }
     {
         match self {
-            Kind::Plain => 4_294_967_295,
-            Kind::Positive => 9_223_372_036_854_775_807,
-            Kind::Negative => 9_223_372_036_854_775_808,
-            Kind::Bytes => 1_048_576,
-            Kind::Entries => 1_000_000,
-            Kind::Races => 65_536,
+            Kind::Plain => u32::MAX as u64,
+            Kind::Positive => i64::MAX as u64,
+            Kind::Negative => i64::MAX as u64 + 1,
+            Kind::Bytes => MOST_PROGRAM_BYTES as u64,
+            Kind::Entries => MOST_ENTRIES as u64,
+            Kind::Races => MOST_RACES as u64,
         }
     }
 }

@@ -5,6 +5,7 @@
 #![tactic(auto)]
 
 mod acts;
+pub mod bounds;
 mod cursor;
 mod digits;
 pub mod laws;

@@ -6,14 +6,12 @@ ghost use Rattle.run_record.specs.Machine.{Unsigned, Signed, Datum, Arguments};
 ghost use Rattle.run_record.specs.Records.{IsSigned, IsValue};
 ghost use Rattle.run_record.specs.Steps.{Read, ReadOn, same, AreArguments, items_of};
 
+use crate::bounds::MOST_ARGUMENTS;
 use crate::cursor::{Cursor, Stop};
 use crate::digits::{Kind, grow, number, plain};
 use fut_base::list::Listing;
 use fut_base::record::{Args, Value};
 use std::alloc::Global;
-
-/// How many arguments a call may have.
-const MOST_ARGUMENTS: usize = 16;
 
 /// The number below 0 with these digits.
 fn below_zero(number: u64) -> i64
@@ -78,7 +76,7 @@ pub fn value(cursor: &mut Cursor<'_>) -> Result<Value, Stop>
 
 /// At most 16 arguments, each behind a space, and the end of the line.
 pub fn arguments(alloc: Global, cursor: &mut Cursor<'_>) -> Result<Args, Stop>
-    ensures { Read (Arguments 16 ∷ []) values_line AreArguments items_of cursor.old cursor.new result }
+    ensures { Read (Arguments MOST_ARGUMENTS ∷ []) values_line AreArguments items_of cursor.old cursor.new result }
 {
     let mut all = Listing::make(alloc);
     'more: loop {

@@ -4,6 +4,8 @@ use Rattle.std.specs.Prelude.{Option, Some, None, is_some, slice_get, slice_set,
 use Rattle.std.proofs.lemmas.List.{reverse-append}
 use Rattle.std.proofs.lemmas.List.Sums.{sum_by-append, sum_by-cons}
 use Rattle.std.proofs.lemmas.Bool.{false≢true}
+use Rattle.std.proofs.lemmas.Option.{same_Some}
+use Rattle.fut_base.proofs.Rising.{strands_few}
 use Rattle.fut_base.specs.declared.record.Value.{Value}
 use Rattle.fut_base.specs.declared.event.Event.{Event}
 use Rattle.fut_base.specs.declared.event.Action.{Action}
@@ -23,7 +25,7 @@ use Rattle.run_replay.specs.declared.line.Line.{Line}
 use Rattle.access_shards.specs.Histories.{IsInStep}
 use Rattle.run_laws.specs.Ready.{ready_by, ready_past, ready_of}
 use Rattle.run_replay.specs.Replays.{ReplayNow, IsLineOf, AreLinesOf, IsReplayOf, AreBegun, StillAt, Takes, Finds, CanAct, IsLegalAct, creates_by}
-use Rattle.run_replay.proofs.Lining.{task_of_line, set_line, add_lines, set_length, some_same}
+use Rattle.run_replay.proofs.Lining.{task_of_line, set_line, add_lines, set_length}
 use Rattle.run_replay.proofs.Finding.{in_step_further}
 
 not_some : {X : Type 0} (o : Option X) → is_some o ≡ false → o ≡ None
@@ -75,15 +77,6 @@ begun_few code future (Ends _) lines b = let e = ap length b in omega (arith, e)
 begun_few code future (Spawns _ _ _ _ _) lines (line, is, b) = let e = ap length is in omega (arith, e)
 begun_few code future (Creates _ _ _ _ _) lines (line, is, b) = let e = ap length is in omega (arith, e)
 
-strands_few : (a : Action) → strands_by a ≤ 2
-strands_few (Reads _ _) = omega arith
-strands_few (Writes _ _) = omega arith
-strands_few (Syncs _) = omega arith
-strands_few (Gets _ _ _) = omega arith
-strands_few (Ends _) = omega arith
-strands_few (Spawns _ _ _ _ _) = omega arith
-strands_few (Creates _ _ _ _ _) = omega arith
-
 -- ---- a step
 
 abbrev pub can_step : (P : tree.Program) (m : Machine) (t : ℕ) (r : Running) (a : Action) → slice_get m.tasks t ≡ Some r → r.value ≡ None → (can : CanAct P m r a) → IsStep P m (record { task = t; strand = r.strand; action = a }) (after P m (record { task = t; strand = r.strand; action = a }) r can.stop)
@@ -95,14 +88,14 @@ pub takes_step : (P : tree.Program) (code : Compiled) (h : List Event) (m : Mach
     → (n : Machine) × IsStep P m e n × IsReplayOf P code (h ++ e ∷ []) new n
 takes_step P code h m old new t a e r x k st present runs can =
     let found = task_of_line P code old.lines m.tasks t k.before x.lines k.present in
-    let same : found.0 ≡ r = some_same found.0 r (sym found.1 ∙ present) in
+    let same : found.0 ≡ r = same_Some found.0 r (sym found.1 ∙ present) in
     let l : IsLineOf P code k.before r = subst (λ (q : Running). IsLineOf P code k.before q) same found.2 in
     let own : Event = record { task = t; strand = r.strand; action = a } in
     let is : e ≡ own = k.event ∙ ap (λ s. at t s a) l.strand in
     let n : Machine = after P m own r can.stop in
     let step : IsStep P m own n = can_step P m t r a present runs can in
     let still : k.before.task.spot.ended ≡ false = l.ended ∙ ap (λ (o : Option Value). is_some o) runs in
-    let fed = k.acts.fed still (subst (λ (z : Line). IsStill code z.task) (some_same st.0 k.before (sym st.1 ∙ k.present)) st.3) in
+    let fed = k.acts.fed still (subst (λ (z : Line). IsStill code z.task) (same_Some st.0 k.before (sym st.1 ∙ k.present)) st.3) in
     let fits : ActionFits any_future P k.before.task.which can.stop a = subst (λ w. ActionFits any_future P w can.stop a) (sym l.which) (steps_fit P h m own n x.typed x.leads step) in
     let line : IsLineOf P code k.after (acted r can.stop a) =
     record {
@@ -150,7 +143,7 @@ takes_step P code h m old new t a e r x k st present runs can =
 pub may_find : (code : Compiled) (now : ReplayNow) (t : ℕ) (a : Action) (x : Line) (e : Event) (k : IsLegalAct code now t a) → slice_get now.lines t ≡ Some x → e ≡ record { task = t; strand = x.strand; action = a } → IsInStep (k.history ++ e ∷ [])
 may_find code now t a x e k present is =
     let found = task_of_line k.program code now.lines k.machine.tasks t x k.replay.lines present in
-    let same : found.0 ≡ k.task = some_same found.0 k.task (sym found.1 ∙ k.running.0) in
+    let same : found.0 ≡ k.task = same_Some found.0 k.task (sym found.1 ∙ k.running.0) in
     let strand : x.strand ≡ k.task.strand = found.2.strand ∙ ap (λ (r : Running). r.strand) same in
     let step = can_step k.program k.machine t k.task a k.running.0 k.running.1 k.can in
     let own = in_step_further k.program k.history k.machine _ _ k.replay.leads step k.replay.found.steps in

@@ -2,6 +2,8 @@
 use Rattle.std.proofs.Common.{◌≡◌, ℕ, ◌+◌, ◌<◌, true, false, List, length, refl, sym, ap, ◌∙◌, subst, arith}
 use Rattle.std.specs.Prelude.{Option, Some, None, IsSome, is_some, not, slice_get, Result, Ok, Err, IfOk}
 use Rattle.std.proofs.lemmas.Bool.{false≢true}
+use Rattle.std.proofs.lemmas.Option.{same_Some}
+use Rattle.fut_base.specs.declared.limits.TheConstants.{MOST_LOCAL_STEPS}
 use Rattle.fut_base.specs.declared.record.Value.{Value}
 use Rattle.fut_base.specs.declared.record.Limits.{Limits}
 use Rattle.fut_base.specs.declared.event.Event.{Event}
@@ -21,7 +23,7 @@ use Rattle.run_replay.specs.declared.replay.Next.{Next}
 use Rattle.run_replay.specs.declared.replay.Next.TheVariants as next
 use Rattle.run_replay.specs.Replays.{ReplayNow, IsReplayOf, IsSomeReplay, Takes, CanAct, IsEvent, IsFree, IsBarred, RunsAt, StillAt, is_running}
 use Rattle.run_replay.specs.Next.{is_create, WaitsFor, IsWaiting, IsFull, IsMade, Goes, MayGo, IsBar, IsNext}
-use Rattle.run_replay.proofs.Lining.{task_of_line, line_of_task, some_same}
+use Rattle.run_replay.proofs.Lining.{task_of_line, line_of_task}
 use Rattle.run_replay.proofs.Acting.{takes_step, can_step}
 use Rattle.run_replay.proofs.Waiting.{at_event, cell_there}
 
@@ -31,7 +33,7 @@ if_ok (Err e) P Q f h = tt
 
 -- ---- a wish to create
 
-pub create_of : (P : tree.Program) (r : Running) (w : asked.Wish) → is_create w ≡ true → Wishes P 1000000 r.state w → WishesCreate P r
+pub create_of : (P : tree.Program) (r : Running) (w : asked.Wish) → is_create w ≡ true → Wishes P MOST_LOCAL_STEPS r.state w → WishesCreate P r
 create_of P r (wish.Create which) c w = (w.0, which, w.1, at_event r.state w.0 w.2, w.3)
 create_of P r (wish.Read _) c w = absurd (false≢true c)
 create_of P r (wish.Write _ _) c w = absurd (false≢true c)
@@ -46,7 +48,7 @@ one_wish : (P : tree.Program) (s t u : TaskState) (v w : Wish) → StandsAt s t 
 one_wish P s t u v w a b x y = sym x ∙ (ap (wish_of P) (stands_at_one s t u a b) ∙ y)
 
 -- only this wish is to create
-pub only_create : (P : tree.Program) (r : Running) (w : asked.Wish) (stop : TaskState) (code : ℕ) (args : List Value) → StandsAt r.state stop → wish_of P stop ≡ ToCreate code args → Wishes P 1000000 r.state w → is_create w ≡ true
+pub only_create : (P : tree.Program) (r : Running) (w : asked.Wish) (stop : TaskState) (code : ℕ) (args : List Value) → StandsAt r.state stop → wish_of P stop ≡ ToCreate code args → Wishes P MOST_LOCAL_STEPS r.state w → is_create w ≡ true
 only_create P r (wish.Create which) stop code args at is w = refl
 only_create P r (wish.Read cell) stop code args at is w = absurd (let e = one_wish P r.state stop w.0 (ToCreate code args) (ToRead cell) at (at_event r.state w.0 w.1) is w.2 in cc)
 only_create P r (wish.Write cell value) stop code args at is w = absurd (let e = one_wish P r.state stop w.0 (ToCreate code args) (ToWrite cell value) at (at_event r.state w.0 w.1) is w.2 in cc)
@@ -54,9 +56,9 @@ only_create P r (wish.Spawn which) stop code args at is w = absurd (let e = one_
 only_create P r wish.Sync stop code args at is w = absurd (let e = one_wish P r.state stop w.0 (ToCreate code args) ToSync at (at_event r.state w.0 w.1) is w.2 in cc)
 only_create P r (wish.Get future) stop code args at is w = absurd (let e = one_wish P r.state stop w.0 (ToCreate code args) (ToGet future) at (at_event r.state w.0 w.1) is w.2 in cc)
 only_create P r (wish.End value) stop code args at is w = absurd (let e = one_wish P r.state stop w.0 (ToCreate code args) (ToEnd value) at (at_event r.state w.0 w.1) is w.2 in cc)
-only_create P r wish.Long stop code args at is w = absurd (stands_or_goes_on r.state stop at (1000000, refl, w))
+only_create P r wish.Long stop code args at is w = absurd (stands_or_goes_on r.state stop at (MOST_LOCAL_STEPS, refl, w))
 
-acts_create : (P : tree.Program) (m : Machine) (r : Running) (w : asked.Wish) (a : Action) → CanAct P m r a → Wishes P 1000000 r.state w → creates a ≡ true → is_create w ≡ true
+acts_create : (P : tree.Program) (m : Machine) (r : Running) (w : asked.Wish) (a : Action) → CanAct P m r a → Wishes P MOST_LOCAL_STEPS r.state w → creates a ≡ true → is_create w ≡ true
 acts_create P m r w (Creates code child kid cont args) can wishes c = only_create P r w can.stop code args can.stands can.answers wishes
 acts_create P m r w (Reads _ _) can wishes c = absurd (false≢true c)
 acts_create P m r w (Writes _ _) can wishes c = absurd (false≢true c)
@@ -65,7 +67,7 @@ acts_create P m r w (Syncs _) can wishes c = absurd (false≢true c)
 acts_create P m r w (Gets _ _ _) can wishes c = absurd (false≢true c)
 acts_create P m r w (Ends _) can wishes c = absurd (false≢true c)
 
-pub goes : (P : tree.Program) (code : Compiled) (h : List Event) (m : Machine) (old new : ReplayNow) (t : ℕ) (w : asked.Wish) (a : Action) (e : Event) (r : Running) → IsReplayOf P code h old m → IsRunning m t r → Wishes P 1000000 r.state w → CanAct P m r a → StillAt code old.lines t → Takes code old new t a e → Goes P code h m t w e new
+pub goes : (P : tree.Program) (code : Compiled) (h : List Event) (m : Machine) (old new : ReplayNow) (t : ℕ) (w : asked.Wish) (a : Action) (e : Event) (r : Running) → IsReplayOf P code h old m → IsRunning m t r → Wishes P MOST_LOCAL_STEPS r.state w → CanAct P m r a → StillAt code old.lines t → Takes code old new t a e → Goes P code h m t w e new
 goes P code h m old new t w a e r x run wishes can st k =
     let n = takes_step P code h m old new t a e r x k st run.0 run.1 can in
     record {
@@ -79,7 +81,7 @@ goes P code h m old new t w a e r x run wishes can st k =
 -- ---- a wish that waits
 
 same_task : (m : Machine) (t : ℕ) (r q : Running) → IsRunning m t r → slice_get m.tasks t ≡ Some q → q ≡ r
-same_task m t r q run e = some_same q r (sym e ∙ run.0)
+same_task m t r q run e = same_Some q r (sym e ∙ run.0)
 
 waits_sync : (m : Machine) (r : Running) (w : Wish) (a : Action) → w ≡ ToSync → Answers w a → Permits m r a → AllHaveEnded m r.block
 waits_sync m r w (Syncs strand) is answers may = may.1
@@ -106,7 +108,7 @@ answered P m t r stop run at (e, is, n, step) =
     let stands = subst (λ (q : Running). StandsAt q.state step.stop) same step.stands in
     (e.action, subst (λ s. Answers (wish_of P s) e.action) (stands_at_one r.state step.stop stop stands at) step.answers, subst (λ q. Permits m q e.action) same step.permits)
 
-pub waiting : (P : tree.Program) (m : Machine) (t : ℕ) (r : Running) (w : asked.Wish) (future : Option ℕ) → IsRunning m t r → Wishes P 1000000 r.state w → IsBarred m r w future → IsWaiting P m t future
+pub waiting : (P : tree.Program) (m : Machine) (t : ℕ) (r : Running) (w : asked.Wish) (future : Option ℕ) → IsRunning m t r → Wishes P MOST_LOCAL_STEPS r.state w → IsBarred m r w future → IsWaiting P m t future
 waiting P m t r wish.Sync future run w b =
     let at = at_event r.state w.0 w.1 in
     record {
@@ -134,7 +136,7 @@ waiting P m t r (wish.Create _) future run w b = absurd b
 waiting P m t r (wish.End _) future run w b = absurd b
 waiting P m t r wish.Long future run w b = absurd b
 
-pub not_full : (P : tree.Program) (limits : Limits) (h : List Event) (m : Machine) (t : ℕ) (r : Running) (w : asked.Wish) → IsRunning m t r → Wishes P 1000000 r.state w → (is_create w ≡ true → create_count h < limits.futures) → IsFull P limits h m t → ⊥
+pub not_full : (P : tree.Program) (limits : Limits) (h : List Event) (m : Machine) (t : ℕ) (r : Running) (w : asked.Wish) → IsRunning m t r → Wishes P MOST_LOCAL_STEPS r.state w → (is_create w ≡ true → create_count h < limits.futures) → IsFull P limits h m t → ⊥
 not_full P limits h m t r w run wishes few full =
     let same = same_task m t r full.task run full.running.0 in
     let c = full.wishes in
@@ -147,7 +149,7 @@ not_full P limits h m t r w run wishes few full =
 allow : (P : tree.Program) (m : Machine) (t : ℕ) (r : Running) (a : Action) → IsRunning m t r → CanAct P m r a → IsAllowed P m t
 allow P m t r a run can = (record { task = t; strand = r.strand; action = a }, refl, _, can_step P m t r a run.0 run.1 can)
 
-pub allowed : (P : tree.Program) (code : Compiled) (h : List Event) (now : ReplayNow) (m : Machine) (t : ℕ) (r : Running) (w : asked.Wish) → IsReplayOf P code h now m → IsRunning m t r → IsEvent w → IsFree m r w → Wishes P 1000000 r.state w → IsAllowed P m t
+pub allowed : (P : tree.Program) (code : Compiled) (h : List Event) (now : ReplayNow) (m : Machine) (t : ℕ) (r : Running) (w : asked.Wish) → IsReplayOf P code h now m → IsRunning m t r → IsEvent w → IsFree m r w → Wishes P MOST_LOCAL_STEPS r.state w → IsAllowed P m t
 allowed P code h now m t r (wish.Read cell) x run is free w =
     let v = cell_there P code h now m x r w.0 cell w.2 in
     allow P m t r (Reads cell v.0) run (record { stop = w.0; stands = at_event r.state w.0 w.1; answers = w.2; permits = v.1 })

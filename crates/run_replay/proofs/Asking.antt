@@ -1,6 +1,8 @@
 -- A task is asked for its wish.
 use Rattle.std.proofs.Common.{◌≡◌, ℕ, Bool, false, List, refl, sym, ◌∙◌, subst}
 use Rattle.std.specs.Prelude.{Some, None, is_some, slice_get}
+use Rattle.std.proofs.lemmas.Option.{same_Some}
+use Rattle.fut_base.specs.declared.limits.TheConstants.{MOST_LOCAL_STEPS}
 use Rattle.fut_base.specs.declared.record.Value.{Value}
 use Rattle.fut_base.specs.declared.event.Event.{Event}
 use Rattle.fut_syntax.specs.Trees as tree
@@ -20,7 +22,7 @@ use Rattle.task_code.specs.Tasks.{TaskNow, IsTaskOf, IsSomeTask, IsStill, StopsA
 use Rattle.task_code.specs.declared.task.Wish as asked
 use Rattle.run_replay.specs.declared.line.Line.{Line}
 use Rattle.run_replay.specs.Replays.{ReplayNow, IsEvent, IsReplayOf, IsSomeReplay, RunsAt}
-use Rattle.run_replay.proofs.Lining.{task_of_line, some_same}
+use Rattle.run_replay.proofs.Lining.{task_of_line}
 
 pub some_task : (code : Compiled) (now : ReplayNow) (t : ℕ) (x : Line) → IsSomeReplay code now → slice_get now.lines t ≡ Some x → IsSomeTask code x.task
 some_task code now t x (P, h, m, k) present =
@@ -28,14 +30,14 @@ some_task code now t x (P, h, m, k) present =
     (P, found.2.args, found.0.state, k.code_is, found.2.task)
 
 pub still_runs : (lines : List Line) (t : ℕ) (x : Line) → RunsAt lines t → slice_get lines t ≡ Some x → x.task.spot.ended ≡ false
-still_runs lines t x (line, present, runs) e = subst (λ (l : Line). l.task.spot.ended ≡ false) (some_same line x (sym present ∙ e)) runs
+still_runs lines t x (line, present, runs) e = subst (λ (l : Line). l.task.spot.ended ≡ false) (same_Some line x (sym present ∙ e)) runs
 
 pub wishes_of : (P : tree.Program) (code : Compiled) (h : List Event) (now : ReplayNow) (m : Machine) (t : ℕ) (x : Line) (r : Running) (w : asked.Wish) → IsReplayOf P code h now m → slice_get now.lines t ≡ Some x → slice_get m.tasks t ≡ Some r
-    → ((args : List Value) (s : TaskState) → IsTaskOf P code args x.task s → Wishes P 1000000 s w) → Wishes P 1000000 r.state w
+    → ((args : List Value) (s : TaskState) → IsTaskOf P code args x.task s → Wishes P MOST_LOCAL_STEPS s w) → Wishes P MOST_LOCAL_STEPS r.state w
 wishes_of P code h now m t x r w k present is wishes =
     let found = task_of_line P code now.lines m.tasks t x k.lines present in
-    let same : found.0 ≡ r = some_same found.0 r (sym found.1 ∙ is) in
-    subst (λ (q : Running). Wishes P 1000000 q.state w) same (wishes found.2.args found.0.state found.2.task)
+    let same : found.0 ≡ r = same_Some found.0 r (sym found.1 ∙ is) in
+    subst (λ (q : Running). Wishes P MOST_LOCAL_STEPS q.state w) same (wishes found.2.args found.0.state found.2.task)
 
 -- where a task tells an event it stands there
 pub stops_still : (code : Compiled) (task : TaskNow) (w : asked.Wish) → StopsAt code task w → IsEvent w → IsStill code task

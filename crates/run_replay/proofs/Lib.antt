@@ -7,7 +7,6 @@ pub mod Asking
 pub mod Waiting
 pub mod Answering
 pub mod Serially
-pub mod Sameness
 pub mod Only
 pub mod Finding
 pub mod Stepping

@@ -1,6 +1,7 @@
 -- Lines of a run beside the tasks of a machine.
 use Rattle.std.proofs.Common.{◌≡◌, ℕ, zero, suc, ◌<◌, List, [], ◌∷◌, ◌++◌, length, refl, sym, ap, ◌∙◌, subst, arith}
 use Rattle.std.specs.Prelude.{Some, slice_get, slice_set}
+use Rattle.run_laws.proofs.Waits.{get_some}
 use Rattle.fut_syntax.specs.Trees as tree
 use Rattle.fut_check.specs.Items.{IsWellTyped}
 use Rattle.task_machine.specs.Machine.{Running}
@@ -79,9 +80,6 @@ get_set_here [] i x lt = absurd (omega arith)
 get_set_here (y ∷ xs) zero x lt = refl
 get_set_here (y ∷ xs) (suc i) x lt = get_set_here xs i x (omega arith)
 
-pub some_same : {X : Type 0} (x y : X) → Some x ≡ Some y → x ≡ y
-some_same x y h = cc
-
 pub same_task : (code : Compiled) (t : TaskNow) → KeepsTask code t t
 same_task code t = record { which = refl; ended = refl; state = λ P w of args s h. h }
 
@@ -98,13 +96,7 @@ kept_lines P code xs ys rs t typed of k are =
 pub kept_length : (code : Compiled) (xs ys : List Line) (t : ℕ) → KeepsLineAt code xs ys t → length ys ≡ length xs
 kept_length code xs ys t k = ap length k.is ∙ set_length xs t k.after
 
--- a place of a list has an item
-pub item_at : {X : Type 0} (xs : List X) (i : ℕ) → i < length xs → (x : X) × (slice_get xs i ≡ Some x)
-item_at [] i lt = absurd (omega arith)
-item_at (x ∷ xs) zero lt = (x, refl)
-item_at (x ∷ xs) (suc i) lt = item_at xs i (omega arith)
-
 pub same_at : (code : Compiled) (xs ys : List Line) (t : ℕ) → t < length xs → ys ≡ xs → KeepsLineAt code xs ys t
 same_at code xs ys t lt is =
-    let x = item_at xs t lt in
+    let x = get_some xs t lt in
     record { before = x.0; after = x.0; present = x.1; is = is ∙ sym (set_same xs t x.0 x.1); keeps = same_line code x.0 }

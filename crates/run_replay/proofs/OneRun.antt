@@ -1,8 +1,9 @@
 -- Two serial runs of a program within the same limits are one run.
-use Rattle.std.proofs.Common.{◌≡◌, ℕ, zero, suc, ◌+◌, ◌<◌, ◌≤◌, Bool, true, List, [], ◌∷◌, ◌++◌, length, refl, sym, ap, ◌∙◌, subst, arith, ◌⊎◌, inl, inr, append_assoc, length-append}
-use Rattle.std.specs.Prelude.{Option, Some, IsSome, is_some, slice_get, reverse, count_by, cond, ℤ}
+use Rattle.std.proofs.Common.{◌≡◌, ℕ, ◌+◌, ◌≤◌, true, List, [], ◌∷◌, ◌++◌, length, refl, sym, ap, ◌∙◌, subst, arith, ◌⊎◌, inl, inr, append_assoc, length-append}
+use Rattle.std.specs.Prelude.{slice_get, reverse, cond, ℤ}
 use Rattle.std.proofs.lemmas.List.{reverse-append, append-nil}
 use Rattle.std.proofs.lemmas.List.Sums.{sum_by-append}
+use Rattle.std.proofs.lemmas.Option.{same_Some}
 use Rattle.fut_base.specs.declared.record.Limits.{Limits}
 use Rattle.fut_base.specs.declared.record.Finish.{Finish}
 use Rattle.fut_base.specs.declared.record.Finish.TheVariants as finish
@@ -12,9 +13,9 @@ use Rattle.fut_base.specs.declared.event.Action.{Action}
 use Rattle.fut_base.specs.declared.event.Action.TheVariants.{Reads, Writes, Spawns, Creates, Syncs, Gets, Ends}
 use Rattle.fut_syntax.specs.Trees as tree
 use Rattle.task_machine.specs.State.{Wish, ToCreate, wish_of, Answers, TaskState}
-use Rattle.task_machine.specs.Runs.{IsOutOfSteps, StandsAt}
+use Rattle.task_machine.specs.Runs.{IsOutOfSteps}
 use Rattle.task_machine.specs.Machine.{Machine, Running, opening, Leads, IsStep, EachEnded, IsRunning, IsAllowed, creates, create_count, WishesCreate}
-use Rattle.task_machine.proofs.Leading.{leads_to_one, leads_further, split}
+use Rattle.task_machine.proofs.Leading.{leads_to_one, leads_further}
 use Rattle.task_machine.proofs.Stepping.{step_is_one, stands_at_one, stands_or_goes_on}
 use Rattle.run_laws.specs.Laws.{IsFirst}
 use Rattle.run_laws.proofs.Stuck.{first_is_one}
@@ -23,7 +24,6 @@ use Rattle.run_replay.specs.Next.{IsFull, IsSpent}
 use Rattle.run_replay.specs.Serials.{IsSerialPast, IsSerial, Stops, IsSerialRun}
 use Rattle.run_replay.specs.Laws.{SerialIsOne}
 use Rattle.run_replay.proofs.Acting.{creates_further, longer}
-use Rattle.run_replay.proofs.Lining.{some_same}
 use Rattle.run_replay.proofs.Only.{one_action, steps_can}
 use Rattle.run_replay.proofs.Serially.{not_ended}
 
@@ -88,7 +88,7 @@ not_out : (P : tree.Program) (m n : Machine) (e : Event) (r : Running) → IsRun
 not_out P m n e r run step out = let can = (steps_can P m n e r run step).0 in stands_or_goes_on r.state can.stop can.stands out
 
 one_task : (m : Machine) (t u : ℕ) (r q : Running) → t ≡ u → IsRunning m t r → IsRunning m u q → r ≡ q
-one_task m t u r q same x y = some_same r q (sym x.0 ∙ (ap (λ n. slice_get m.tasks n) same ∙ y.0))
+one_task m t u r q same x y = same_Some r q (sym x.0 ∙ (ap (λ n. slice_get m.tasks n) same ∙ y.0))
 
 counts : (h k : List Event) → create_count (h ++ k) ≡ create_count h + create_count k
 counts h k = sum_by-append (λ x. cond (creates x.action) 1 0) h k

@@ -1,6 +1,8 @@
 -- The machine lets a task do one thing: an entry that is a step is the one that it may do.
 use Rattle.std.proofs.Common.{◌≡◌, ℕ, ◌+◌, List, length, refl, sym, ap, ◌∙◌, subst}
 use Rattle.std.specs.Prelude.{Option, Some, None, option_map, slice_get, ℤ, false}
+use Rattle.std.proofs.lemmas.Option.{same_Some}
+use Rattle.fut_base.specs.declared.limits.TheConstants.{MOST_LOCAL_STEPS}
 use Rattle.fut_base.specs.declared.record.Value.{Value}
 use Rattle.fut_base.specs.declared.event.Event.{Event}
 use Rattle.fut_base.specs.declared.event.Action.{Action}
@@ -15,7 +17,7 @@ use Rattle.task_code.specs.declared.task.Wish as asked
 use Rattle.task_code.specs.declared.task.Wish.TheVariants as wish
 use Rattle.run_replay.specs.Replays.{ReplayNow, IsReplayOf, Takes, CanAct, IsBarred, IsOn, StillAt, is_running}
 use Rattle.run_replay.specs.Steps.{HasMade, IsNoStep}
-use Rattle.run_replay.proofs.Lining.{task_of_line, line_of_task, some_same}
+use Rattle.run_replay.proofs.Lining.{task_of_line, line_of_task}
 use Rattle.run_replay.proofs.Acting.{takes_step}
 use Rattle.run_replay.proofs.Answering.{idle, waiting}
 
@@ -45,12 +47,12 @@ is_for m r w (Ends value) is may = ap (action_for m) is
 pub one_action : (P : tree.Program) (m : Machine) (r : Running) (a b : Action) → CanAct P m r a → CanAct P m r b → a ≡ b
 one_action P m r a b x y =
     let same = stands_at_one r.state x.stop y.stop x.stands y.stands in
-    some_same a b (sym (is_for m r (wish_of P x.stop) a x.answers x.permits) ∙ (ap (λ s. action_for m (wish_of P s)) same ∙ is_for m r (wish_of P y.stop) b y.answers y.permits))
+    same_Some a b (sym (is_for m r (wish_of P x.stop) a x.answers x.permits) ∙ (ap (λ s. action_for m (wish_of P s)) same ∙ is_for m r (wish_of P y.stop) b y.answers y.permits))
 
 -- an event that is a step is of its task, which may do it
 pub steps_can : (P : tree.Program) (m n : Machine) (e : Event) (r : Running) → IsRunning m e.task r → IsStep P m e n → CanAct P m r e.action × (r.strand ≡ e.strand)
 steps_can P m n e r run step =
-    let same : step.task ≡ r = some_same step.task r (sym step.present ∙ run.0) in
+    let same : step.task ≡ r = same_Some step.task r (sym step.present ∙ run.0) in
     subst (λ (q : Running). CanAct P m q e.action × (q.strand ≡ e.strand)) same (record { stop = step.stop; stands = step.stands; answers = step.answers; permits = step.permits }, step.strand)
 
 module _ (P : tree.Program) (code : Compiled) (h : List Event) (now : ReplayNow) (m : Machine) (x : IsReplayOf P code h now m) (e : Event) where
@@ -62,12 +64,12 @@ module _ (P : tree.Program) (code : Compiled) (h : List Event) (now : ReplayNow)
       let l = line_of_task P code now.lines m.tasks e.task step.task x.lines step.present in
       off (l.0, l.1, l.2.strand ∙ step.strand)
 
-pub too_long : (P : tree.Program) (m : Machine) (e : Event) (r : Running) → IsRunning m e.task r → Wishes P 1000000 r.state wish.Long → IsNoStep P m e
+pub too_long : (P : tree.Program) (m : Machine) (e : Event) (r : Running) → IsRunning m e.task r → Wishes P MOST_LOCAL_STEPS r.state wish.Long → IsNoStep P m e
 too_long P m e r run w n step =
     let can = (steps_can P m n e r run step).0 in
-    stands_or_goes_on r.state can.stop can.stands (1000000, refl, w)
+    stands_or_goes_on r.state can.stop can.stands (MOST_LOCAL_STEPS, refl, w)
 
-pub must_wait : (P : tree.Program) (m : Machine) (e : Event) (r : Running) (w : asked.Wish) (o : Option ℕ) → IsRunning m e.task r → Wishes P 1000000 r.state w → IsBarred m r w o → IsNoStep P m e
+pub must_wait : (P : tree.Program) (m : Machine) (e : Event) (r : Running) (w : asked.Wish) (o : Option ℕ) → IsRunning m e.task r → Wishes P MOST_LOCAL_STEPS r.state w → IsBarred m r w o → IsNoStep P m e
 must_wait P m e r w o run wishes b n step = (waiting P m e.task r w o run wishes b).barred (e, refl, n, step)
 
 pub other_action : (P : tree.Program) (m : Machine) (e : Event) (r : Running) (a : Action) → IsRunning m e.task r → CanAct P m r a → (a ≡ e.action → ⊥) → IsNoStep P m e
@@ -77,9 +79,9 @@ pub has_made : (P : tree.Program) (code : Compiled) (h : List Event) (m : Machin
     → IsReplayOf P code h first m → IsReplayOf P code h old m → IsRunning m e.task r → IsOn first.lines e.task e.strand → StillAt code old.lines e.task → CanAct P m r a → a ≡ e.action → Takes code old new e.task a own → HasMade P code h m e new
 has_made P code h m first old new e own a r x y run on st can same k =
     let given = task_of_line P code first.lines m.tasks e.task on.0 x.lines on.1 in
-    let strand : r.strand ≡ e.strand = ap (λ (q : Running). q.strand) (some_same r given.0 (sym run.0 ∙ given.1)) ∙ (sym given.2.strand ∙ on.2) in
+    let strand : r.strand ≡ e.strand = ap (λ (q : Running). q.strand) (same_Some r given.0 (sym run.0 ∙ given.1)) ∙ (sym given.2.strand ∙ on.2) in
     let found = task_of_line P code old.lines m.tasks e.task k.before y.lines k.present in
-    let held : k.before.strand ≡ r.strand = found.2.strand ∙ ap (λ (q : Running). q.strand) (some_same found.0 r (sym found.1 ∙ run.0)) in
+    let held : k.before.strand ≡ r.strand = found.2.strand ∙ ap (λ (q : Running). q.strand) (same_Some found.0 r (sym found.1 ∙ run.0)) in
     let is : own ≡ e = k.event ∙ (ap (λ s. at e.task s a) (held ∙ strand) ∙ ap (λ b. at e.task e.strand b) same) in
     subst (λ (d : Event). HasMade P code h m d new) is (takes_step P code h m old new e.task a own r y k st run.0 run.1 can)
   where

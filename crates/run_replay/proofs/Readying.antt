@@ -1,9 +1,10 @@
 -- The list of the tasks that have not ended, first to last and last to first.
-use Rattle.std.proofs.Common.{◌≡◌, ◌≢◌, ℕ, zero, suc, ◌==◌, Bool, true, false, ◌||◌, if◌then◌else◌, List, [], ◌∷◌, ◌++◌, refl, sym, ap, ◌∙◌, subst, arith}
+use Rattle.std.proofs.Common.{◌≡◌, ℕ, zero, suc, ◌==◌, Bool, true, false, ◌||◌, if◌then◌else◌, List, [], ◌∷◌, ◌++◌, refl, sym, ap, ◌∙◌, subst, arith}
 use Rattle.std.specs.Prelude.{Some, slice_get, reverse}
 use Rattle.std.specs.List.{insert, remove}
 use Rattle.std.proofs.lemmas.List.{reverse-append, append_assoc}
-use Rattle.std.proofs.lemmas.Bool.{false≢true}
+use Rattle.std.proofs.lemmas.Bool.{false≢true, eq-eqb, ne_eqb, or_right}
+use Rattle.std.proofs.Math.Bool.{or_assoc, or-false, or_comm}
 use Rattle.run_laws.specs.Ready.{put_before, without}
 use Rattle.run_replay.specs.Ready.{IsLastPlace, IsAbsent}
 
@@ -54,55 +55,31 @@ out_near t (x ∷ xs) ys h = out_near_at (x == t) x t xs ys h (out_near t xs ys)
 turned : (x : ℕ) (xs : List ℕ) → reverse (x ∷ xs) ≡ reverse xs ++ x ∷ []
 turned x xs = reverse-append (x ∷ []) xs
 
-or_same : (a b : Bool) → (a || b) ≡ (b || a)
-or_same true true = refl
-or_same true false = refl
-or_same false true = refl
-or_same false false = refl
-
-or_none : (b : Bool) → (b || false) ≡ b
-or_none true = refl
-or_none false = refl
-
-or_assoc : (a b c : Bool) → (a || (b || c)) ≡ ((a || b) || c)
-or_assoc true b c = refl
-or_assoc false b c = refl
-
 has_append : (t : ℕ) (xs ys : List ℕ) → has t (xs ++ ys) ≡ (has t xs || has t ys)
 has_append t [] ys = refl
-has_append t (x ∷ xs) ys = ap (λ b. (x == t) || b) (has_append t xs ys) ∙ or_assoc (x == t) (has t xs) (has t ys)
+has_append t (x ∷ xs) ys = ap (λ b. (x == t) || b) (has_append t xs ys) ∙ sym (or_assoc (x == t) (has t xs) (has t ys))
 
 has_turned : (t : ℕ) (xs : List ℕ) → has t (reverse xs) ≡ has t xs
 has_turned t [] = refl
 has_turned t (x ∷ xs) =
     ap (has t) (turned x xs)
-    ∙ (has_append t (reverse xs) (x ∷ []) ∙ (ap (λ b. has t (reverse xs) || b) (or_none (x == t)) ∙ (or_same (has t (reverse xs)) (x == t) ∙ ap (λ b. (x == t) || b) (has_turned t xs))))
-
-same_is : (x t : ℕ) → x ≡ t → (x == t) ≡ true
-same_is x t h = grind arith
-
-other_is : (x t : ℕ) → x ≢ t → (x == t) ≡ false
-other_is x t h = grind arith
+    ∙ (has_append t (reverse xs) (x ∷ []) ∙ (ap (λ b. has t (reverse xs) || b) (or-false (x == t)) ∙ (or_comm (has t (reverse xs)) (x == t) ∙ ap (λ b. (x == t) || b) (has_turned t xs))))
 
 has_not : (t : ℕ) (xs : List ℕ) → IsAbsent xs t → has t xs ≡ false
 has_not t [] h = refl
 has_not t (x ∷ xs) h =
-    subst (λ b. (b || has t xs) ≡ false) (sym (other_is x t (h zero x refl))) (has_not t xs (λ j y e. h (suc j) y e))
-
-or_true : (a : Bool) → (a || true) ≡ true
-or_true true = refl
-or_true false = refl
+    subst (λ b. (b || has t xs) ≡ false) (sym (ne_eqb x t (h zero x refl))) (has_not t xs (λ j y e. h (suc j) y e))
 
 has_at : (t : ℕ) (xs : List ℕ) (i : ℕ) → slice_get xs i ≡ Some t → has t xs ≡ true
 has_at t [] i h = cc
-has_at t (x ∷ xs) zero h = (let same : x ≡ t = cc in subst (λ b. (b || has t xs) ≡ true) (sym (same_is x t same)) refl)
-has_at t (x ∷ xs) (suc i) h = ap (λ b. (x == t) || b) (has_at t xs i h) ∙ or_true (x == t)
+has_at t (x ∷ xs) zero h = (let same : x ≡ t = cc in subst (λ b. (b || has t xs) ≡ true) (sym (eq-eqb x t same)) refl)
+has_at t (x ∷ xs) (suc i) h = ap (λ b. (x == t) || b) (has_at t xs i h) ∙ or_right (x == t) true refl
 
 put_self : (child t : ℕ) → put_before t child (t ∷ []) ≡ child ∷ t ∷ []
-put_self child t = subst (λ b. (if b then child ∷ t ∷ [] else t ∷ []) ≡ child ∷ t ∷ []) (sym (same_is t t refl)) refl
+put_self child t = subst (λ b. (if b then child ∷ t ∷ [] else t ∷ []) ≡ child ∷ t ∷ []) (sym (eq-eqb t t refl)) refl
 
 out_self : (t : ℕ) → without t (t ∷ []) ≡ []
-out_self t = subst (λ b. (if b then [] else t ∷ []) ≡ []) (sym (same_is t t refl)) refl
+out_self t = subst (λ b. (if b then [] else t ∷ []) ≡ []) (sym (eq-eqb t t refl)) refl
 
 pub put_turned : (child t : ℕ) (xs : List ℕ) (i : ℕ) → IsLastPlace xs t i → reverse (insert xs (suc i) child) ≡ put_before t child (reverse xs)
 put_turned child t [] i h = (let e = h.0 in cc)

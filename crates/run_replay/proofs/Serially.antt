@@ -1,8 +1,11 @@
 -- The serial run goes on, or stops.
-use Rattle.std.proofs.Common.{◌≡◌, ℕ, zero, suc, ◌+◌, ◌<◌, ◌≤◌, Bool, true, false, List, [], ◌∷◌, ◌++◌, refl, sym, ap, ◌∙◌, subst, arith, ◌⊎◌, inl, inr}
-use Rattle.std.specs.Prelude.{Option, Some, IsSome, is_some, slice_get, reverse, map, ℤ}
+use Rattle.std.proofs.Common.{◌≡◌, ℕ, ◌+◌, ◌<◌, ◌≤◌, Bool, true, false, List, [], ◌∷◌, ◌++◌, refl, sym, ap, ◌∙◌, subst, arith, ◌⊎◌, inl, inr}
+use Rattle.std.specs.Prelude.{Option, is_some, reverse, map, ℤ}
 use Rattle.std.proofs.lemmas.List.{reverse-append, map-append}
 use Rattle.std.proofs.lemmas.Bool.{false≢true}
+use Rattle.std.proofs.lemmas.Option.{same_Some}
+use Rattle.run_laws.proofs.Once.{ended_at}
+use Rattle.fut_base.specs.declared.limits.TheConstants.{MOST_CREATES}
 use Rattle.fut_base.specs.declared.record.Value.{Value}
 use Rattle.fut_base.specs.declared.record.Limits.{Limits}
 use Rattle.fut_base.specs.declared.record.Finish.{Finish}
@@ -23,7 +26,6 @@ use Rattle.run_replay.specs.Replays.{ReplayNow, IsReplayOf, creates_by}
 use Rattle.run_replay.specs.Next.{IsWaiting, IsSpent, IsMade, MayGoOn}
 use Rattle.run_replay.specs.Serials.{IsSerialPast, IsSerial, Stops, IsNotStuck, IsNeverStuck, IsSerialRun, Runs}
 use Rattle.run_replay.proofs.Acting.{creates_further, longer}
-use Rattle.run_replay.proofs.Lining.{some_same}
 
 pub stops_of : (P : tree.Program) (limits : Limits) (h : List Event) (m : Machine) (t : ℕ) (r : Running) (f : Finish) → IsFirst h m t r → IsSpent P limits h m t f → Stops P limits h m f
 stops_of P limits h m t r finish.Whole first spent = absurd spent
@@ -34,7 +36,7 @@ stops_of P limits h m t r (finish.Futures u) first spent = (t, r, first, spent)
 -- the first task never waits
 pub never_waits : (P : tree.Program) (h : List Event) (m : Machine) (t : ℕ) (r : Running) (future : Option ℕ) → IsWellTyped P → Leads P (opening P) h m → IsFirst h m t r → IsWaiting P m t future → ⊥
 never_waits P h m t r future typed leads first w =
-    let same : w.task ≡ r = some_same w.task r (sym w.running.0 ∙ first.running.0) in
+    let same : w.task ≡ r = same_Some w.task r (sym w.running.0 ∙ first.running.0) in
     elim (first_may_go_on P h m t r typed leads first) [
       | inl out ↦ stands_or_goes_on w.task.state w.stop w.stands (subst (λ (q : Running). Rattle.task_machine.specs.Runs.IsOutOfSteps q.state) (sym same) out)
       | inr may ↦ w.barred may
@@ -67,11 +69,6 @@ runs_further P code limits h old new x t r e first made =
 
 -- ---- the end
 
-ended_at : (rs : List Running) (t : ℕ) (r : Running) → EachEnded rs → slice_get rs t ≡ Some r → IsSome r.value
-ended_at [] t r each e = cc
-ended_at (q ∷ rs) zero r each e = let same : q ≡ r = some_same q r e in subst (λ (x : Running). IsSome x.value) same each.0
-ended_at (q ∷ rs) (suc t) r each e = ended_at rs t r each.1 e
-
 pub not_ended : (m : Machine) (t : ℕ) (r : Running) → EachEnded m.tasks → IsRunning m t r → ⊥
 not_ended m t r each run = false≢true (sym (ap (λ (o : Option Value). is_some o) run.1) ∙ ended_at m.tasks t r each run.0)
 
@@ -80,7 +77,7 @@ not_whole P h m t r leads run all =
     let same : all.0 ≡ m = leads_to_one P (opening P) h all.0 m all.1 leads in
     not_ended m t r (subst (λ (n : Machine). EachEnded n.tasks) same all.2) run
 
-pub stops_hold : (P : tree.Program) (code : Compiled) (limits : Limits) (h : List Event) (now : ReplayNow) (x : Runs P code limits h now) (f : Finish) → limits.futures ≡ 4096 → Stops P limits h x.machine f → FinishHolds P h f
+pub stops_hold : (P : tree.Program) (code : Compiled) (limits : Limits) (h : List Event) (now : ReplayNow) (x : Runs P code limits h now) (f : Finish) → limits.futures ≡ MOST_CREATES → Stops P limits h x.machine f → FinishHolds P h f
 stops_hold P code limits h now x finish.Whole most s = (x.machine, x.replay.leads, s)
 stops_hold P code limits h now x (finish.Events b) most (t, r, first, (is, many, may, full)) =
     (let few = x.few in omega (arith, is, many, few), not_whole P h x.machine t r x.replay.leads first.running)
@@ -89,7 +86,7 @@ stops_hold P code limits h now x (finish.Local u) most (t, r, first, (is, (q, ru
 stops_hold P code limits h now x (finish.Futures u) most (t, r, first, (is, full)) =
     (x.machine, full.task, x.replay.leads, subst (λ n. IsRunning x.machine n full.task) (sym is) full.running, (let few = x.creates_few in let many = full.many in omega (arith, few, many, most)), full.wishes)
 
-pub serial_run : (P : tree.Program) (code : Compiled) (limits : Limits) (h : List Event) (now : ReplayNow) (x : Runs P code limits h now) (f : Finish) → limits.futures ≡ 4096 → Stops P limits h x.machine f → IsSerialRun P limits h f now.cells
+pub serial_run : (P : tree.Program) (code : Compiled) (limits : Limits) (h : List Event) (now : ReplayNow) (x : Runs P code limits h now) (f : Finish) → limits.futures ≡ MOST_CREATES → Stops P limits h x.machine f → IsSerialRun P limits h f now.cells
 serial_run P code limits h now x f most s =
     record { machine = x.machine; leads = x.replay.leads; serial = x.serial; few = x.few; creates_few = x.creates_few; stops = s; holds = stops_hold P code limits h now x f most s; cells_are = x.replay.cells }
 

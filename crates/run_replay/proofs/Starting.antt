@@ -2,6 +2,7 @@
 use Rattle.std.proofs.Common.{◌≡◌, ℕ, zero, suc, ◌+◌, List, [], ◌∷◌, ◌++◌, length, replicate, refl, sym, ap, ◌∙◌, subst, arith}
 use Rattle.std.specs.Prelude.{Some, slice_get, slice_set, reverse, ℤ, pos}
 use Rattle.std.proofs.lemmas.List.{reverse-append}
+use Rattle.std.proofs.lemmas.Option.{same_Some}
 use Rattle.fut_base.specs.declared.event.Event.{Event}
 use Rattle.fut_base.specs.declared.event.Action.{Action}
 use Rattle.fut_base.specs.Dag.{block_after}
@@ -21,7 +22,7 @@ use Rattle.run_laws.specs.Ready.{ready_by}
 use Rattle.run_laws.proofs.Ready.{ready_is_first}
 use Rattle.run_replay.specs.declared.line.Line.{Line}
 use Rattle.run_replay.specs.Replays.{ReplayNow, IsLineOf, AreLinesOf, IsReplayOf, KeepsLine, KeepsLineAt, StandsStill, ActsAs, ActsAt, AreBegun, Begins, StillAt, Takes, Finds, FindsStill, creates_by}
-use Rattle.run_replay.proofs.Lining.{kept_lines, kept_length, set_twice, get_set_here, some_same}
+use Rattle.run_replay.proofs.Lining.{kept_lines, kept_length, set_twice, get_set_here}
 use Rattle.task_machine.proofs.Places.{get_below}
 
 pub begins_run : (P : tree.Program) (code : Compiled) (main : Line) (now : ReplayNow) → IsWellTyped P → IsCodeOf P code → Begins code code.main [] 0 0 main → IsFinderOf [] now.finder
@@ -60,7 +61,7 @@ begins_run P code main now typed of b found lines cells ready entries creates st
 
 last_first : (xs : List ℕ) (i t : ℕ) → i + 1 ≡ length xs → slice_get xs i ≡ Some t → (ts : List ℕ) × (reverse xs ≡ t ∷ ts)
 last_first [] i t e h = cc
-last_first (x ∷ []) zero t e h = ([], (let same : x ≡ t = some_same x t h in ap (λ z. z ∷ []) same))
+last_first (x ∷ []) zero t e h = ([], (let same : x ≡ t = same_Some x t h in ap (λ z. z ∷ []) same))
 last_first (x ∷ []) (suc i) t e h = absurd (omega (arith, e))
 last_first (x ∷ y ∷ ys) zero t e h = absurd (omega (arith, e))
 last_first (x ∷ y ∷ ys) (suc i) t e h =
@@ -117,9 +118,9 @@ pub takes_by : (code : Compiled) (old new : ReplayNow) (mid : List Line) (t : �
     → new.cells ≡ cells_after a old.cells → new.strands ≡ old.strands + strands_by a → new.entries ≡ old.entries + 1 → new.creates ≡ old.creates + creates_by (creates a) → reverse new.ready ≡ ready_by t a (reverse old.ready)
     → Finds old.finder new.finder e → Takes code old new t a e
 takes_by code old new mid t a e begun x present k st w are event cells strands entries creates ready finds =
-    let same : k.before ≡ x = some_same k.before x (sym k.present ∙ present) in
+    let same : k.before ≡ x = same_Some k.before x (sym k.present ∙ present) in
     let here = get_set_here old.lines t k.after (get_below old.lines t x present) in
-    let middle : k.after ≡ w.before = some_same k.after w.before (sym here ∙ (ap (λ l. slice_get l t) (sym k.is) ∙ w.present)) in
+    let middle : k.after ≡ w.before = same_Some k.after w.before (sym here ∙ (ap (λ l. slice_get l t) (sym k.is) ∙ w.present)) in
     let keeps : KeepsLine code x w.before = subst (λ (z : Line). KeepsLine code z w.before) same (subst (λ (z : Line). KeepsLine code k.before z) middle k.keeps) in
     record {
       before = x;
@@ -128,7 +129,7 @@ takes_by code old new mid t a e begun x present k st w are event cells strands e
       present = present;
       event = event;
       lines = w.is ∙ ap (λ l. l ++ begun) (ap (λ l. slice_set l t w.after) k.is ∙ set_twice old.lines t k.after w.after);
-      acts = acts_on code x w.before w.after a keeps (subst (λ (z : Line). IsStill code z.task) (some_same st.0 w.before (sym st.1 ∙ w.present)) st.3) w.acts;
+      acts = acts_on code x w.before w.after a keeps (subst (λ (z : Line). IsStill code z.task) (same_Some st.0 w.before (sym st.1 ∙ w.present)) st.3) w.acts;
       are_begun = are;
       cells = cells;
       strands = strands;

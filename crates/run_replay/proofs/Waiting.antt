@@ -2,6 +2,9 @@
 use Rattle.std.proofs.Common.{◌≡◌, ℕ, zero, suc, ◌+◌, ◌<◌, true, List, [], ◌∷◌, length, refl, sym, ap, ◌∙◌, subst, arith}
 use Rattle.std.specs.Prelude.{Option, Some, None, IsSome, is_some, slice_get, option_and_then, ℤ, pos}
 use Rattle.std.proofs.lemmas.Bool.{false≢true}
+use Rattle.std.proofs.lemmas.Option.{same_Some}
+use Rattle.run_laws.proofs.Waits.{get_some}
+use Rattle.fut_base.specs.declared.limits.TheConstants.{MOST_LOCAL_STEPS}
 use Rattle.fut_base.specs.declared.record.Value.{Value}
 use Rattle.fut_base.specs.declared.event.Event.{Event}
 use Rattle.fut_base.specs.declared.event.Action.TheVariants.{Reads, Writes, Spawns, Creates, Syncs, Gets, Ends}
@@ -17,7 +20,7 @@ use Rattle.run_replay.specs.declared.line.Line.{Line}
 use Rattle.run_replay.specs.Replays.{ReplayNow, AreLinesOf, IsReplayOf, CanAct, IsFree, value_at, HaveEnded, RunsStill}
 use Rattle.run_laws.proofs.Stuck.{AccessesBelow, wish_below, cells_from, replicate_length}
 use Rattle.run_laws.proofs.Typed.{well_typed_has_cells}
-use Rattle.run_replay.proofs.Lining.{line_of_task, count_lines, some_same, item_at}
+use Rattle.run_replay.proofs.Lining.{line_of_task, count_lines}
 
 value_is : (P : tree.Program) (code : Compiled) (xs : List Line) (rs : List Running) (t : ℕ) → AreLinesOf P code xs rs → value_at xs t ≡ option_and_then (λ (r : Running). r.value) (slice_get rs t)
 value_is P code [] [] t h = refl
@@ -39,7 +42,7 @@ module _ (P : tree.Program) (code : Compiled) (h : List Event) (now : ReplayNow)
   pub not_all : (ts : List ℕ) (i t : ℕ) → slice_get ts i ≡ Some t → value_at now.lines t ≡ None → AllHaveEnded m ts → ⊥
   not_all [] i t e none all = cc
   not_all (u ∷ ts) zero t e none all =
-      (let same : u ≡ t = some_same u t e in
+      (let same : u ≡ t = same_Some u t e in
       false≢true (ap (λ (o : Option Value). is_some o) (sym none) ∙ (ap (λ (o : Option Value). is_some o) (value_of_task P code h now m t x) ∙ subst (λ n. IsSome (ended_with m n)) same all.0)))
   not_all (u ∷ ts) (suc i) t e none all = not_all ts i t e none all.1
 
@@ -47,7 +50,7 @@ module _ (P : tree.Program) (code : Compiled) (h : List Event) (now : ReplayNow)
   pub block_is : (t : ℕ) (l : Line) (r : Running) → slice_get now.lines t ≡ Some l → slice_get m.tasks t ≡ Some r → l.block.items ≡ r.block
   block_is t l r e present =
       let found = line_of_task P code now.lines m.tasks t r x.lines present in
-      let same : found.0 ≡ l = some_same found.0 l (sym found.1 ∙ e) in
+      let same : found.0 ≡ l = same_Some found.0 l (sym found.1 ∙ e) in
       ap (λ (k : Line). k.block.items) (sym same) ∙ found.2.block
 
   pub free_sync : (t : ℕ) (l : Line) (r : Running) → slice_get now.lines t ≡ Some l → slice_get m.tasks t ≡ Some r → HaveEnded now.lines l.block.items → AllHaveEnded m r.block
@@ -71,8 +74,8 @@ module _ (P : tree.Program) (code : Compiled) (h : List Event) (now : ReplayNow)
 
 -- ---- the action that answers a wish
 
-pub at_event : (s t : TaskState) → StandsWithin 1000000 s t → StandsAt s t
-at_event s t w = (1000000, refl, w)
+pub at_event : (s t : TaskState) → StandsWithin MOST_LOCAL_STEPS s t → StandsAt s t
+at_event s t w = (MOST_LOCAL_STEPS, refl, w)
 
 module _ (P : tree.Program) (code : Compiled) (h : List Event) (now : ReplayNow) (m : Machine) (x : IsReplayOf P code h now m) (r : Running) where
   -- a cell that is read exists
@@ -80,37 +83,37 @@ module _ (P : tree.Program) (code : Compiled) (h : List Event) (now : ReplayNow)
   cell_there s cell is =
       let below : cell < cell_count P = subst (λ z. AccessesBelow (cell_count P) z) is (wish_below P (well_typed_has_cells P x.typed) s) in
       let size : length m.cells ≡ cell_count P = cells_from P (opening P) h m x.leads ∙ replicate_length (cell_count P) (pos 0) in
-      item_at m.cells cell (omega (arith, below, size))
+      get_some m.cells cell (omega (arith, below, size))
 
-  pub can_read : (cell : ℕ) (value : ℤ) → ((v : ℤ) → slice_get now.cells cell ≡ Some v → value ≡ v) → Wishes P 1000000 r.state (wish.Read cell) → CanAct P m r (Reads cell value)
+  pub can_read : (cell : ℕ) (value : ℤ) → ((v : ℤ) → slice_get now.cells cell ≡ Some v → value ≡ v) → Wishes P MOST_LOCAL_STEPS r.state (wish.Read cell) → CanAct P m r (Reads cell value)
   can_read cell value held w =
       let v = cell_there w.0 cell w.2 in
       let same : value ≡ v.0 = held v.0 (ap (λ (cs : List ℤ). slice_get cs cell) x.cells ∙ v.1) in
       record { stop = w.0; stands = at_event r.state w.0 w.1; answers = w.2; permits = v.1 ∙ ap (λ z. Some z) (sym same) }
 
-  pub can_write : (cell : ℕ) (value : ℤ) → Wishes P 1000000 r.state (wish.Write cell value) → CanAct P m r (Writes cell value)
+  pub can_write : (cell : ℕ) (value : ℤ) → Wishes P MOST_LOCAL_STEPS r.state (wish.Write cell value) → CanAct P m r (Writes cell value)
   can_write cell value w = record { stop = w.0; stands = at_event r.state w.0 w.1; answers = w.2; permits = tt }
 
-  pub can_sync : (strand : ℕ) → strand ≡ now.strands → IsFree m r wish.Sync → Wishes P 1000000 r.state wish.Sync → CanAct P m r (Syncs strand)
+  pub can_sync : (strand : ℕ) → strand ≡ now.strands → IsFree m r wish.Sync → Wishes P MOST_LOCAL_STEPS r.state wish.Sync → CanAct P m r (Syncs strand)
   can_sync strand is free w = record { stop = w.0; stands = at_event r.state w.0 w.1; answers = w.2; permits = (is ∙ x.strands, free) }
 
-  pub can_get : (future : ℕ) (value : Value) (strand : ℕ) → strand ≡ now.strands → value_at now.lines future ≡ Some value → Wishes P 1000000 r.state (wish.Get future) → CanAct P m r (Gets future value strand)
+  pub can_get : (future : ℕ) (value : Value) (strand : ℕ) → strand ≡ now.strands → value_at now.lines future ≡ Some value → Wishes P MOST_LOCAL_STEPS r.state (wish.Get future) → CanAct P m r (Gets future value strand)
   can_get future value strand is held w =
       record { stop = w.0; stands = at_event r.state w.0 w.1; answers = w.2; permits = (is ∙ x.strands, sym (value_of_task P code h now m future x) ∙ held) }
 
-  pub can_end : (value : Value) → Wishes P 1000000 r.state (wish.End value) → CanAct P m r (Ends value)
+  pub can_end : (value : Value) → Wishes P MOST_LOCAL_STEPS r.state (wish.End value) → CanAct P m r (Ends value)
   can_end value w = record { stop = w.0; stands = at_event r.state w.0 w.1; answers = w.2; permits = tt }
 
   pub can_spawn : (which child kid cont : ℕ) (args : List Value) → child ≡ length now.lines → kid ≡ now.strands → cont ≡ now.strands + 1
       → ((stop : TaskState) (given : List Value) → StandsAt r.state stop → wish_of P stop ≡ ToSpawn which given → args ≡ given)
-      → Wishes P 1000000 r.state (wish.Spawn which) → CanAct P m r (Spawns which child kid cont args)
+      → Wishes P MOST_LOCAL_STEPS r.state (wish.Spawn which) → CanAct P m r (Spawns which child kid cont args)
   can_spawn which child kid cont args c k n same w =
       let at = at_event r.state w.0 w.2 in
       record { stop = w.0; stands = at; answers = w.3 ∙ ap (λ given. ToSpawn which given) (sym (same w.0 w.1 at w.3)); permits = (c ∙ count_lines P code now.lines m.tasks x.lines, k ∙ x.strands, n ∙ ap (λ s. s + 1) x.strands) }
 
   pub can_create : (which child kid cont : ℕ) (args : List Value) → child ≡ length now.lines → kid ≡ now.strands → cont ≡ now.strands + 1
       → ((stop : TaskState) (given : List Value) → StandsAt r.state stop → wish_of P stop ≡ ToCreate which given → args ≡ given)
-      → Wishes P 1000000 r.state (wish.Create which) → CanAct P m r (Creates which child kid cont args)
+      → Wishes P MOST_LOCAL_STEPS r.state (wish.Create which) → CanAct P m r (Creates which child kid cont args)
   can_create which child kid cont args c k n same w =
       let at = at_event r.state w.0 w.2 in
       record { stop = w.0; stands = at; answers = w.3 ∙ ap (λ given. ToCreate which given) (sym (same w.0 w.1 at w.3)); permits = (c ∙ count_lines P code now.lines m.tasks x.lines, k ∙ x.strands, n ∙ ap (λ s. s + 1) x.strands) }

@@ -1,5 +1,6 @@
 -- A run beside the machine of the definitions.
 use Rattle.std.specs.Prelude.{◌≡◌, ℕ, ◌+◌, ◌*◌, ◌<◌, ◌≤◌, Bool, true, false, not, List, [], ◌∷◌, ◌++◌, length, reverse, slice_get, slice_set, Option, Some, None, is_some, IsSome, ℤ, vec_len, vec_capacity}
+use Rattle.fut_base.specs.declared.limits.TheConstants.{MOST_LOCAL_STEPS}
 use Rattle.fut_base.specs.declared.record.Value.{Value}
 use Rattle.fut_base.specs.declared.event.Event.{Event}
 use Rattle.fut_base.specs.declared.event.Action.{Action}
@@ -249,5 +250,5 @@ pub record IsFreeWish (code : Compiled) (now : ReplayNow) (t : ℕ) (w : asked.W
   pub task : Running
   pub replay : IsReplayOf program code history now machine
   pub running : IsRunning machine t task
-  pub wishes : Wishes program 1000000 task.state w
+  pub wishes : Wishes program MOST_LOCAL_STEPS task.state w
   pub free : IsFree machine task w

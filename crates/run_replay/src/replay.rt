@@ -16,10 +16,11 @@ ghost use Rattle.run_laws.specs.Laws.{IsFirst};
 ghost use Rattle.run_replay.specs.Next.{Goes, is_create, IsBar, IsNext, MayGo, MayGoOn};
 ghost use Rattle.run_replay.specs.Replays.{HaveEnded, IsOn, is_running, RunsStill, value_at, CanAct, IsBarred, IsEvent, IsFree, IsFreeWish, IsLegalAct, IsReplayOf, IsSomeReplay, RunsAt, StandsStill, StillAt, Takes};
 
-use crate::copies::copy_of;
 use crate::line::{Line, begin, begin_child};
 use crate::ready::reorder;
 use crate::table::{commit, creates_of, give_room, strands_of, write};
+use fut_base::acts::copy_of;
+use fut_base::limits::{MOST_ENTRIES, MOST_LOCAL_STEPS};
 use fut_base::list::{Listing, NoMemory};
 use fut_base::record::{Act, Args, Cells, Entry, Finish, Limits, Races, Value};
 use race_finder::Finder;
@@ -27,9 +28,6 @@ use std::alloc::Global;
 use std::marker::Model;
 use task_code::code::Code;
 use task_code::task::Wish;
-
-/// The greatest number of local steps of a task in a row.
-const MOST_STEPS: u32 = 1_000_000;
 
 /// What the next event of a task is, or why there is none.
 #[derive(Drop)]
@@ -176,10 +174,10 @@ impl Replay {
         ensures running { RunsAt self.new.lines task }
         ensures stands { IsEvent result → StillAt code.now self.new.lines task }
         ensures counts { (self.new.entries ≡ self.old.entries) × (self.new.creates ≡ self.old.creates) }
-        ensures wish { (P : tree.Program) (h : List Event) (m : Machine) (r : Running) → IsReplayOf P code.now h self.old m → slice_get m.tasks task ≡ Some r → Wishes P 1000000 r.state result }
+        ensures wish { (P : tree.Program) (h : List Event) (m : Machine) (r : Running) → IsReplayOf P code.now h self.old m → slice_get m.tasks task ≡ Some r → Wishes P MOST_LOCAL_STEPS r.state result }
     {
         let line = &mut self.lines[task as usize];
-        line.task.advance(code, MOST_STEPS)
+        line.task.advance(code, MOST_LOCAL_STEPS)
     }
 
     /// The place of one of these tasks that has not ended.
@@ -248,7 +246,7 @@ impl Replay {
         requires event { IsEvent wish }
         requires few { length self.now.lines < 2 ^ 32 }
         requires made { self.now.strands + 2 ≤ 2 ^ 32 }
-        ensures { (P : tree.Program) (h : List Event) (m : Machine) (r : Running) → IsReplayOf P code.now h self.now m → slice_get m.tasks task ≡ Some r → Wishes P 1000000 r.state wish → IsFree m r wish → IfOk result (λ act. CanAct P m r (action_of act)) }
+        ensures { (P : tree.Program) (h : List Event) (m : Machine) (r : Running) → IsReplayOf P code.now h self.now m → slice_get m.tasks task ≡ Some r → Wishes P MOST_LOCAL_STEPS r.state wish → IsFree m r wish → IfOk result (λ act. CanAct P m r (action_of act)) }
     {
         let strand = self.strands as u32;
         let child = self.lines.len() as u32;
@@ -338,7 +336,7 @@ impl Replay {
         requires still { StillAt code.now self.old.lines task }
         requires event { IsEvent wish }
         requires few { self.old.entries < 2 ^ 29 }
-        ensures made { (P : tree.Program) (h : List Event) (m : Machine) (r : Running) → IsReplayOf P code.now h self.old m → IsRunning m task r → Wishes P 1000000 r.state wish → IsFree m r wish → IfOk result (λ entry. Goes P code.now h m task wish (event_of entry) self.new) }
+        ensures made { (P : tree.Program) (h : List Event) (m : Machine) (r : Running) → IsReplayOf P code.now h self.old m → IsRunning m task r → Wishes P MOST_LOCAL_STEPS r.state wish → IsFree m r wish → IfOk result (λ entry. Goes P code.now h m task wish (event_of entry) self.new) }
         ensures unchanged { OnErr result (StandsStill code.now self.old self.new) }
     {
         let act = self.act_of(code, task, wish)?;
@@ -365,7 +363,7 @@ impl Replay {
     /// Why a task that wishes this makes no event now.
     fn bar(&self, limits: Limits, task: u32, wish: Wish) -> Option<Next>
         requires exists { task < length self.now.lines }
-        ensures { (P : tree.Program) (code : Compiled) (h : List Event) (m : Machine) (r : Running) → IsReplayOf P code h self.now m → IsRunning m task r → Wishes P 1000000 r.state wish → MatchOption result (MayGo limits h m r wish) (λ next. IsBar P limits h m task next) }
+        ensures { (P : tree.Program) (code : Compiled) (h : List Event) (m : Machine) (r : Running) → IsReplayOf P code h self.now m → IsRunning m task r → Wishes P MOST_LOCAL_STEPS r.state wish → MatchOption result (MayGo limits h m r wish) (λ next. IsBar P limits h m task next) }
     {
         if is_long(wish) {
             return Some(Next::Spent {
@@ -398,8 +396,8 @@ impl Replay {
     /// allowed and `limits.events` entries were made. `NoMemory` is want of memory. Only `Made` changes the run.
     pub fn event(&mut self, code: &Code, limits: Limits, task: u32) -> Next
         requires known { IsSomeReplay code.now self.old }
-        requires local { limits.local_steps ≡ 1000000 }
-        requires events { limits.events ≤ 1000000 }
+        requires local { limits.local_steps ≡ MOST_LOCAL_STEPS }
+        requires events { limits.events ≤ MOST_ENTRIES }
         ensures { (P : tree.Program) (h : List Event) (m : Machine) → IsReplayOf P code.now h self.old m → IsNext P code.now limits h m task self.new result }
     {
         if !self.runs(task) {

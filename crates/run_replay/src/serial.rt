@@ -1,5 +1,6 @@
 //! The serial run: a child runs to its end before its maker goes on.
 ghost use Rattle.std.specs.Prelude.{◌≡◌, ◌≤◌, IfOk};
+ghost use Rattle.fut_base.specs.declared.limits.TheConstants.{MOST_LOCAL_STEPS, MOST_ENTRIES, MOST_CREATES};
 ghost use Rattle.fut_base.specs.Events.{events_of};
 ghost use Rattle.fut_base.specs.Racing.{IsReport};
 ghost use Rattle.fut_syntax.specs.Trees as tree;
@@ -23,8 +24,8 @@ fn turn(
     history: &mut History,
 ) -> Result<Option<Finish>, NoMemory>
     requires program { (P : tree.Program) × IsWellTyped P × IsCodeOf P code.now }
-    requires local { limits.local_steps ≡ 1000000 }
-    requires events { limits.events ≤ 1000000 }
+    requires local { limits.local_steps ≡ MOST_LOCAL_STEPS }
+    requires events { limits.events ≤ MOST_ENTRIES }
     requires runs { AlwaysRuns code.now limits (events_of history.old) run.old }
     ensures { IfOk result (λ finish. HasTurned code.now limits (events_of history.old) (events_of history.new) run.new finish) }
 {
@@ -67,9 +68,9 @@ fn finished(alloc: Global, run: &Replay, history: History, finish: Finish) -> Re
 /// it wishes to create, and the history has `limits.futures` creates; the history has `limits.events` entries.
 pub fn serial(alloc: Global, code: &Code, limits: Limits) -> Result<Ran, NoMemory>
     requires program { (P : tree.Program) × IsWellTyped P × IsCodeOf P code.now }
-    requires local { limits.local_steps ≡ 1000000 }
-    requires events { limits.events ≤ 1000000 }
-    requires futures { limits.futures ≡ 4096 }
+    requires local { limits.local_steps ≡ MOST_LOCAL_STEPS }
+    requires events { limits.events ≤ MOST_ENTRIES }
+    requires futures { limits.futures ≡ MOST_CREATES }
     ensures run { IfOk result (λ ran. (P : tree.Program) → IsWellTyped P → IsCodeOf P code.now → IsSerialRun P limits (events_of ran.history) ran.finish ran.cells.items) }
     ensures races { IfOk result (λ ran. IsReport (events_of ran.history) ran.races.items) }
     ensures never_stuck { IfOk result (λ ran. (P : tree.Program) → IsWellTyped P → IsCodeOf P code.now → IsNeverStuck P (events_of ran.history)) }

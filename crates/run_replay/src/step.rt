@@ -8,7 +8,7 @@ ghost use Rattle.run_replay.specs.Replays.{IsReplayOf, IsSomeReplay};
 ghost use Rattle.run_replay.specs.Steps.{IsStepped};
 
 use crate::replay::{Replay, is_long};
-use crate::same::same_act;
+use fut_base::acts::same_act;
 use fut_base::record::Entry;
 use task_code::code::Code;
 

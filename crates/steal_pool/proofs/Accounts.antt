@@ -4,6 +4,7 @@ use Rattle.std.proofs.lemmas.List.Elements.{All-cons, All-tail}
 use Rattle.std.specs.List.{list_any}
 use Rattle.std.specs.Option.{option_to_list}
 use Rattle.std.proofs.lemmas.List.{get_or-map, length-map}
+use Rattle.std.proofs.lemmas.Bool.{or_cases, or_left, or_right, or_parts}
 use Rattle.steal_pool.specs.declared.deque.Victim.{Victim}
 use Rattle.steal_pool.specs.declared.worker.Worker.{Worker}
 use Rattle.steal_pool.specs.Balance.{weigh}
@@ -18,22 +19,6 @@ use Rattle.steal_pool.proofs.Lists.{map_nil, at_same, weigh_none}
 use Rattle.steal_pool.proofs.Shifting.{some_of}
 use Rattle.steal_pool.proofs.Working.{chain_append, stops_append, halts_of, ends_of, halts_left, halts_right}
 
-or_true : (a b : Bool) → (a || b) ≡ true → (a ≡ true) ⊎ (b ≡ true)
-or_true true b e = inl refl
-or_true false b e = inr e
-
-or_left : (a b : Bool) → a ≡ true → (a || b) ≡ true
-or_left true b e = refl
-or_left false b e = cc
-
-or_right : (a b : Bool) → b ≡ true → (a || b) ≡ true
-or_right true b e = refl
-or_right false b e = e
-
-or_false : (a b : Bool) → (a || b) ≡ false → (a ≡ false) × (b ≡ false)
-or_false true b e = cc
-or_false false b e = (refl, e)
-
 any_map : {A B : Type 0} (f : A → B) (p : B → Bool) (xs : List A) → list_any (λ x. p (f x)) xs ≡ list_any p (map f xs)
 any_map f p [] = refl
 any_map f p (x ∷ xs) = ap (λ b. p (f x) || b) (any_map f p xs)
@@ -43,8 +28,8 @@ any_same f p xs ys e = any_map f p xs ∙ (ap (list_any p) e ∙ sym (any_map f 
 
 none_of : {A : Type 0} (p : A → Bool) (xs : List A) → list_any p xs ≡ false → (k : ℕ) (d : A) → k < length xs → p (get_or xs k d) ≡ false
 none_of p [] e k d l = absurd (omega arith)
-none_of p (x ∷ xs) e zero d l = (or_false (p x) (list_any p xs) e).0
-none_of p (x ∷ xs) e (suc k) d l = none_of p xs (or_false (p x) (list_any p xs) e).1 k d (omega arith)
+none_of p (x ∷ xs) e zero d l = (or_parts (p x) (list_any p xs) e).0
+none_of p (x ∷ xs) e (suc k) d l = none_of p xs (or_parts (p x) (list_any p xs) e).1 k d (omega arith)
 
 -- two weights that agree on each element
 weigh_alike : {A : Type 0} (f g : A → ℕ) (xs : List A) → ((k : ℕ) (d : A) → k < length xs → f (get_or xs k d) ≡ g (get_or xs k d)) → weigh f xs ≡ weigh g xs
@@ -104,7 +89,7 @@ module _ {J W : Type 0} (turned : ℕ → W → J → List J → Bool → W → 
           count = let c = x.count in omega arith;
           numbers = λ i d l. number m m' ms ms' w.number x.numbers i d l;
           more = λ i d e l. at_more m m' ms ms' r runs w.turns rec.0 w.chain w.stops x.more i d e l;
-          halted = λ e. elim (or_true m'.halted (list_any (λ (m : Worker J W). m.halted) ms') e) [
+          halted = λ e. elim (or_cases m'.halted (list_any (λ (m : Worker J W). m.halted) ms') e) [
             | inl here ↦ elim (halts_of m.halted m'.halted w.turns w.stops here) [ inl f ↦ inl (or_left m.halted (list_any (λ (m : Worker J W). m.halted) ms) f) | inr s ↦ inr (inl (halts_right r w.turns s)) ]
             | inr there ↦ elim (x.halted there) [ inl f ↦ inl (or_right m.halted (list_any (λ (m : Worker J W). m.halted) ms) f) | inr s ↦ inr (inr s) ]
           ];

@@ -1,7 +1,7 @@
 -- Reaching along edges that come in layers, the newest layer first.
 use Rattle.std.proofs.Common.{◌≡◌, ℕ, ◌<◌, ◌≤◌, List, [], ◌∷◌, ◌++◌, ◌⊎◌, inl, inr, subst, sym, refl, ◌∙◌, arith}
+use Rattle.fut_base.proofs.Members.{among_split, among_left, among_right}
 use Rattle.fut_base.specs.Dag.{Among, IsPath, ReachesBy}
-use Rattle.strand_laws.proofs.Places.{among_or, among_left, among_right}
 
 -- these edges lead from below n to one from n on and below m
 pub record Up (n m : ℕ) (es : List (ℕ × ℕ)) : Type 0 where
@@ -78,7 +78,7 @@ path_of_far (es ∷ ess) u v (inr f) =
 
 pub edge_far : (ess : List (List (ℕ × ℕ))) (a b : ℕ) → Among (a, b) (flat ess) → Far ess a b
 edge_far [] a b h = absurd h
-edge_far (es ∷ ess) a b h = elim (among_or (a, b) (flat ess) es h) [ inl l ↦ inl (edge_far ess a b l) | inr r ↦ inr (a, far_refl ess a, r) ]
+edge_far (es ∷ ess) a b h = elim (among_split (a, b) (flat ess) es h) [ inl l ↦ inl (edge_far ess a b l) | inr r ↦ inr (a, far_refl ess a, r) ]
 
 pub far_of_path : (ess : List (List (ℕ × ℕ))) (m : ℕ) → Ladder ess m → (path : List (ℕ × ℕ)) (u v : ℕ) → IsPath (flat ess) path u v → Far ess u v
 far_of_path ess m l [] u v h = subst (λ x. Far ess u x) h (far_refl ess u)

@@ -1,5 +1,6 @@
 -- The futures of strands, and how many strands the orders have.
 use Rattle.std.proofs.Common.{◌≡◌, ℕ, ◌+◌, List, [], ◌∷◌, ◌++◌, length, length-append, inl, inr, sym, subst, refl, ◌∙◌, arith, if◌then◌else◌}
+use Rattle.fut_base.proofs.Cases.{by_eq}
 use Rattle.fut_base.specs.declared.event.Event.{Event}
 use Rattle.fut_base.specs.declared.event.Action.{Action}
 use Rattle.fut_base.specs.declared.event.Action.TheVariants.{Reads, Writes, Spawns, Creates, Syncs, Gets, Ends}
@@ -8,7 +9,6 @@ use Rattle.fut_base.specs.Orders.{put_after, english_past, hebrew_past}
 use Rattle.fut_base.specs.Sound.{IsSoundPast, MayFollow, next_strand, home_of}
 use Rattle.fut_base.proofs.Rising.{stands_below}
 use Rattle.strand_laws.specs.Laws.{CurrentBelongs, HomesStay, OrdersHaveStrands}
-use Rattle.strand_laws.proofs.Places.{by_eq}
 use Rattle.strand_laws.proofs.Frames.{frame}
 use Rattle.strand_laws.proofs.Links.{linked, ev}
 use Rattle.strand_laws.proofs.Sources.{home_old, whole_en, whole_he, first_last_below}

@@ -1,22 +1,23 @@
 -- The two laws of the orders, over paths as lists of edges.
-use Rattle.std.proofs.Common.{◌≡◌, ◌≢◌, ℕ, ◌<◌, Bool, true, false, ◌&&◌, List, [], ◌∷◌, inl, inr, subst, ap, sym, refl, ◌∙◌, arith}
+use Rattle.std.proofs.Common.{◌≡◌, ◌≢◌, ℕ, ◌<◌, true, List, [], ◌∷◌, inl, inr, subst, ap, sym, refl, ◌∙◌, arith}
+use Rattle.std.proofs.lemmas.Bool.{and_from, and_parts}
+use Rattle.fut_base.proofs.Members.{among_split, among_left, among_right}
 use Rattle.fut_base.specs.declared.event.Event.{Event}
 use Rattle.fut_base.specs.Dag.{Among, edges_past, IsPath, ReachesBy}
 use Rattle.fut_base.specs.Orders.{precedes_past, stands_before, english_past, hebrew_past}
 use Rattle.fut_base.specs.Sound.{IsSoundPast, IsWithin, InnerReaches, next_strand, home_of}
 use Rattle.fut_base.proofs.Rising.{edges_rise}
 use Rattle.strand_laws.specs.Laws.{PrecedesMeansPath, PathsStayInside}
-use Rattle.strand_laws.proofs.Places.{among_or, among_left, among_right, before_place, place_before}
+use Rattle.strand_laws.proofs.Places.{before_place, place_before}
 use Rattle.strand_laws.proofs.Far.{Far, flat, far_refl, far_trans, far_of_path, path_of_far, edge_far}
 use Rattle.strand_laws.proofs.Frames.{layers, inner_layers, inner_by, inner_sub, ladder, inner_ladder, flat_layers}
 use Rattle.strand_laws.proofs.Sources.{whole_en, whole_he}
 use Rattle.strand_laws.proofs.Steps.{basics, inv}
-use Rattle.strand_laws.proofs.Held.{and_split}
 use Rattle.strand_laws.proofs.Ways.{inside}
 
 flat_sub : (past : List Event) (x : ℕ × ℕ) → Among x (flat (inner_layers past)) → Among x (edges_past past)
 flat_sub [] x h = absurd h
-flat_sub (e ∷ past) x h = elim (among_or x (flat (inner_layers past)) (inner_by past e.task e.strand e.action) h) [
+flat_sub (e ∷ past) x h = elim (among_split x (flat (inner_layers past)) (inner_by past e.task e.strand e.action) h) [
   | inl l ↦ among_left x (edges_past past) _ (flat_sub past x l)
   | inr r ↦ among_right x (edges_past past) _ (inner_sub past e.task e.strand e.action x r)
 ]
@@ -53,19 +54,15 @@ inner_edges past sp f (x ∷ path) u v p w =
 pub far_of_inner : (past : List Event) → IsSoundPast past → (u v : ℕ) → InnerReaches past u v → Far (inner_layers past) u v
 far_of_inner past sp u v r = inner_edges past sp (home_of past u) r.0 u v r.1 r.2
 
-both_true : (a b : Bool) → a ≡ true → b ≡ true → (a && b) ≡ true
-both_true true b h k = k
-both_true false b h k = h
-
 pub far_of_precedes : (past : List Event) → IsSoundPast past → (u v : ℕ) → u < next_strand past → v < next_strand past → home_of past u ≡ home_of past v → u ≢ v → precedes_past past u v ≡ true → Far (inner_layers past) u v
 far_of_precedes past sp u v lu lv h ne p =
-    let k = and_split (stands_before u v (english_past past)) (stands_before u v (hebrew_past past)) p in
+    let k = and_parts (stands_before u v (english_past past)) (stands_before u v (hebrew_past past)) p in
     ((inv past sp).means u v lu lv h ne).1 (before_place u v _ ne k.0) (before_place u v _ ne k.1)
 
 pub precedes_of_far : (past : List Event) → IsSoundPast past → (u v : ℕ) → u < next_strand past → v < next_strand past → home_of past u ≡ home_of past v → u ≢ v → Far (inner_layers past) u v → precedes_past past u v ≡ true
 precedes_of_far past sp u v lu lv h ne f =
     let k = ((inv past sp).means u v lu lv h ne).0 f in
-    both_true _ _ (place_before u v _ ((whole_en past sp).all v lv) k.0) (place_before u v _ ((whole_he past sp).all v lv) k.1)
+    and_from _ _ (place_before u v _ ((whole_en past sp).all v lv) k.0) (place_before u v _ ((whole_he past sp).all v lv) k.1)
 
 pub precedes_means_path : PrecedesMeansPath
 precedes_means_path past sp u v a h ne = (

@@ -1,6 +1,7 @@
 -- The first task in English order waits for none, and how a path is found.
 use Rattle.std.proofs.Common.{◌≡◌, ◌≢◌, ℕ, ◌<◌, Bool, true, false, List, [], ◌∷◌, ◌⊎◌, inl, inr, subst, ap, refl, ◌∙◌, arith, ◌==◌, if◌then◌else◌}
 use Rattle.std.specs.Prelude.{Some, None}
+use Rattle.std.proofs.lemmas.Bool.{cases_eq}
 use Rattle.fut_base.specs.declared.event.Event.{Event}
 use Rattle.fut_base.specs.declared.event.Action.{Action}
 use Rattle.fut_base.specs.declared.event.Action.TheVariants.{Reads, Writes, Spawns, Creates, Syncs, Gets, Ends}
@@ -9,7 +10,7 @@ use Rattle.fut_base.specs.Orders.{english_past, precedes_past}
 use Rattle.fut_base.specs.Sound.{IsSoundPast, MayFollow, next_task, current, home_of}
 use Rattle.fut_base.specs.Tables.{table_past}
 use Rattle.strand_laws.specs.Laws.{Covers, IsLeast, LeastWaitsForNone, TryMeansPath}
-use Rattle.strand_laws.proofs.Places.{place, same_or_not, before_place}
+use Rattle.strand_laws.proofs.Places.{place, before_place}
 use Rattle.strand_laws.proofs.Far.{Far, far_refl}
 use Rattle.strand_laws.proofs.Frames.{frame, layers}
 use Rattle.strand_laws.proofs.Links.{Linked, linked, shown, ev, if_on, if_off}
@@ -21,15 +22,15 @@ use Rattle.strand_laws.proofs.Ones.{table_means_path}
 use Rattle.strand_laws.proofs.Early.{spot, block_early, held_early}
 
 one_moves : (past : List Event) (t q x : ℕ) → ((a : ℕ) × (current past q ≡ Some a)) → (a : ℕ) × ((if q == t then Some x else current past q) ≡ Some a)
-one_moves past t q x k = elim (same_or_not q t) [
+one_moves past t q x k = elim (cases_eq q t) [
   | inl e ↦ (x, if_on q t (Some x) (current past q) e)
   | inr ne ↦ (k.0, if_off q t (Some x) (current past q) ne ∙ k.1)
 ]
 
 one_begins : (past : List Event) (t c q y k : ℕ) → (q ≢ c → (a : ℕ) × (current past q ≡ Some a)) → (a : ℕ) × ((if q == t then Some y else (if q == c then Some k else current past q)) ≡ Some a)
-one_begins past t c q y k h = elim (same_or_not q t) [
+one_begins past t c q y k h = elim (cases_eq q t) [
   | inl e ↦ (y, if_on q t (Some y) (if q == c then Some k else current past q) e)
-  | inr ne ↦ elim (same_or_not q c) [
+  | inr ne ↦ elim (cases_eq q c) [
     | inl e ↦ (k, if_off q t (Some y) (if q == c then Some k else current past q) ne ∙ if_on q c (Some k) (current past q) e)
     | inr n ↦ (let r = h n in (r.0, if_off q t (Some y) (if q == c then Some k else current past q) ne ∙ if_off q c (Some k) (current past q) n ∙ r.1))
   ]
@@ -81,10 +82,10 @@ pub try_means_path : TryMeansPath
 try_means_path past sp u v a = (there, back)
   where
     there : ReachesBy (edges_past past) u v → ((home_of past u ≡ home_of past v) × ((u ≡ v) ⊎ (precedes_past past u v ≡ true))) ⊎ ((home_of past u ≢ home_of past v) × Covers past (table_past past v) u)
-    there r = elim (same_or_not (home_of past u) (home_of past v)) [
+    there r = elim (cases_eq (home_of past u) (home_of past v)) [
       | inl h ↦ inl (
         h,
-        elim (same_or_not u v) [
+        elim (cases_eq u v) [
           | inl e ↦ inl e
           | inr ne ↦ inr (precedes_of_far past sp u v a.one a.other h ne (inside past sp u v a.one a.other h (far_of_reach past sp u v r)))
         ],
@@ -95,7 +96,7 @@ try_means_path past sp u v a = (there, back)
     back : ((home_of past u ≡ home_of past v) × ((u ≡ v) ⊎ (precedes_past past u v ≡ true))) ⊎ ((home_of past u ≢ home_of past v) × Covers past (table_past past v) u) → ReachesBy (edges_past past) u v
     back (inl k) = reach_of_far past u v (elim k.1 [
       | inl e ↦ subst (λ z. Far (layers past) u z) e (far_refl (layers past) u)
-      | inr p ↦ elim (same_or_not u v) [
+      | inr p ↦ elim (cases_eq u v) [
         | inl e ↦ subst (λ z. Far (layers past) u z) e (far_refl (layers past) u)
         | inr ne ↦ outward past u v (far_of_precedes past sp u v a.one a.other k.0 ne p)
       ]

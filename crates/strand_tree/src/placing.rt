@@ -1,9 +1,9 @@
 //! Where the strands that an event makes stand in the two lists.
-ghost use Rattle.std.specs.Prelude.{◌≡◌, ℕ, ◌+◌, ◌<◌, ◌≤◌, List, [], ◌∷◌, length, IfSome, unwrap_or, option_map};
+ghost use Rattle.std.specs.Prelude.{◌≡◌, ℕ, ◌<◌, ◌≤◌, List, [], ◌∷◌, length, IfSome, unwrap_or, option_map};
 ghost use Rattle.fut_base.specs.declared.record.Value.{Value};
 ghost use Rattle.fut_base.specs.declared.event.Event.{Event};
 ghost use Rattle.fut_base.specs.declared.event.Action.TheVariants.{Spawns, Creates, Syncs, Gets};
-ghost use Rattle.fut_base.specs.Orders.{put_after};
+ghost use Rattle.order_list.specs.Frames.{HasPut};
 ghost use Rattle.strand_tree.specs.Placing.{IsIn, Extends, IsLastOfFirst, AreNext, Belongs};
 
 use crate::strand::Strand;
@@ -15,10 +15,8 @@ pub fn spawn<P: Placer>(placer: &mut P, at: Strand) -> (Strand, Strand)
     requires room { 2 ≤ P.spare placer.old }
     ensures numbers { AreNext (length (P.english placer.old)) result.0.number result.1.number }
     ensures futures { (result.0.future ≡ at.future) × (result.1.future ≡ at.future) }
-    ensures english { P.english placer.new ≡ put_after at.number (result.0.number ∷ result.1.number ∷ []) (P.english placer.old) }
-    ensures hebrew { P.hebrew placer.new ≡ put_after at.number (result.1.number ∷ result.0.number ∷ []) (P.hebrew placer.old) }
-    ensures spare { P.spare placer.new + 2 ≡ P.spare placer.old }
-    ensures home { P.home placer.new ≡ P.home placer.old }
+    ensures put { HasPut P.Placer placer.old placer.new at.number (result.0.number ∷ result.1.number ∷ [])
+        at.number (result.1.number ∷ result.0.number ∷ []) }
 
     // The orders of some structural events become those of these and the spawn.
     ensures extends { (s : List Event) (task code child : ℕ) (args : List Value)
@@ -38,10 +36,8 @@ pub fn create<P: Placer>(placer: &mut P, at: Strand, child: u32) -> (Strand, Str
     requires room { 2 ≤ P.spare placer.old }
     ensures numbers { AreNext (length (P.english placer.old)) result.0.number result.1.number }
     ensures futures { (result.0.future ≡ child) × (result.1.future ≡ at.future) }
-    ensures english { P.english placer.new ≡ put_after at.number (result.0.number ∷ result.1.number ∷ []) (P.english placer.old) }
-    ensures hebrew { P.hebrew placer.new ≡ put_after at.number (result.1.number ∷ result.0.number ∷ []) (P.hebrew placer.old) }
-    ensures spare { P.spare placer.new + 2 ≡ P.spare placer.old }
-    ensures home { P.home placer.new ≡ P.home placer.old }
+    ensures put { HasPut P.Placer placer.old placer.new at.number (result.0.number ∷ result.1.number ∷ [])
+        at.number (result.1.number ∷ result.0.number ∷ []) }
 
     // The orders of some structural events become those of these and the create.
     ensures extends { (s : List Event) (task code : ℕ) (args : List Value)
@@ -62,10 +58,8 @@ pub fn sync<P: Placer>(placer: &mut P, at: Strand, first_last: Option<Strand>) -
     requires room { 1 ≤ P.spare placer.old }
     ensures number { result.number ≡ length (P.english placer.old) }
     ensures future { result.future ≡ at.future }
-    ensures english { P.english placer.new ≡ put_after at.number (result.number ∷ []) (P.english placer.old) }
-    ensures hebrew { P.hebrew placer.new ≡ put_after (unwrap_or (option_map (λ last. last.number) first_last) at.number) (result.number ∷ []) (P.hebrew placer.old) }
-    ensures spare { P.spare placer.new + 1 ≡ P.spare placer.old }
-    ensures home { P.home placer.new ≡ P.home placer.old }
+    ensures put { HasPut P.Placer placer.old placer.new at.number (result.number ∷ [])
+        (unwrap_or (option_map (λ last. last.number) first_last) at.number) (result.number ∷ []) }
 
     // The orders of some structural events become those of these and the sync.
     ensures extends { (s : List Event) (task : ℕ) → IsLastOfFirst s task first_last
@@ -81,10 +75,7 @@ pub fn get<P: Placer>(placer: &mut P, at: Strand) -> Strand
     requires room { 1 ≤ P.spare placer.old }
     ensures number { result.number ≡ length (P.english placer.old) }
     ensures future { result.future ≡ at.future }
-    ensures english { P.english placer.new ≡ put_after at.number (result.number ∷ []) (P.english placer.old) }
-    ensures hebrew { P.hebrew placer.new ≡ put_after at.number (result.number ∷ []) (P.hebrew placer.old) }
-    ensures spare { P.spare placer.new + 1 ≡ P.spare placer.old }
-    ensures home { P.home placer.new ≡ P.home placer.old }
+    ensures put { HasPut P.Placer placer.old placer.new at.number (result.number ∷ []) at.number (result.number ∷ []) }
 
     // The orders of some structural events become those of these and the get.
     ensures extends { (s : List Event) (task future : ℕ) (value : Value)
@@ -100,10 +91,8 @@ fn fork<P: Placer>(placer: &mut P, at: Strand, kid_future: u32) -> (Strand, Stra
     requires room { 2 ≤ P.spare placer.old }
     ensures numbers { AreNext (length (P.english placer.old)) result.0.number result.1.number }
     ensures futures { (result.0.future ≡ kid_future) × (result.1.future ≡ at.future) }
-    ensures english { P.english placer.new ≡ put_after at.number (result.0.number ∷ result.1.number ∷ []) (P.english placer.old) }
-    ensures hebrew { P.hebrew placer.new ≡ put_after at.number (result.1.number ∷ result.0.number ∷ []) (P.hebrew placer.old) }
-    ensures spare { P.spare placer.new + 2 ≡ P.spare placer.old }
-    ensures home { P.home placer.new ≡ P.home placer.old }
+    ensures put { HasPut P.Placer placer.old placer.new at.number (result.0.number ∷ result.1.number ∷ [])
+        at.number (result.1.number ∷ result.0.number ∷ []) }
 {
     let kid = placer.insert(at.item(), at.item());
     let cont = placer.insert(kid, at.item());
@@ -125,10 +114,7 @@ fn join<P: Placer>(placer: &mut P, at: Strand, after: Strand) -> Strand
     requires room { 1 ≤ P.spare placer.old }
     ensures number { result.number ≡ length (P.english placer.old) }
     ensures future { result.future ≡ at.future }
-    ensures english { P.english placer.new ≡ put_after at.number (result.number ∷ []) (P.english placer.old) }
-    ensures hebrew { P.hebrew placer.new ≡ put_after after.number (result.number ∷ []) (P.hebrew placer.old) }
-    ensures spare { P.spare placer.new + 1 ≡ P.spare placer.old }
-    ensures home { P.home placer.new ≡ P.home placer.old }
+    ensures put { HasPut P.Placer placer.old placer.new at.number (result.number ∷ []) after.number (result.number ∷ []) }
 {
     let item = placer.insert(at.item(), after.item());
     Strand {

@@ -2,11 +2,13 @@
 use Rattle.std.proofs.Common.{◌≡◌, ℕ, zero, suc, ◌+◌, ◌-◌, ◌<◌, ◌≤◌, cond, List, [], ◌∷◌, length, take, drop, get_or, replicate, refl, sym, ap, ◌∙◌, subst, arith}
 use Rattle.std.specs.Prelude.{Option, Some, None, bytes_eq, slice_set, slice_index}
 use Rattle.std.proofs.lemmas.List.{get_or-set_same, length-set, length-replicate}
+use Rattle.std.proofs.lemmas.Bool.{both_ways}
+use Rattle.fut_base.proofs.Cases.{by_bool}
 use Rattle.fut_base.specs.declared.record.Value.{Value}
 use Rattle.fut_syntax.specs.Trees as tree
 use Rattle.fut_syntax.specs.Views.{type_tree}
 use Rattle.task_machine.specs.Variables.{Slot, Many, Variables, slot_at, size_of, taken, bound}
-use Rattle.task_types.proofs.Slots.{by_bool, not_both, same_word, word_is}
+use Rattle.task_types.proofs.Slots.{same_word, word_is}
 use Rattle.task_frame.specs.declared.names.Name.{Name}
 use Rattle.task_code.specs.declared.code.Given.{Given}
 use Rattle.task_code.specs.declared.code.TaskCode.{TaskCode}
@@ -73,7 +75,7 @@ holds_front names vars slots w n x h found =
           let set : x ≡ slot_for (slice_set slots n x) (find_name names w) =
           sym (get_or-set_same slots n x zero_slot (omega (arith, below_names names n w found, h.long))) ∙ ap (slot_for (slice_set slots n x)) (sym found) in
           subst (λ v. x ≡ slot_for (slice_set slots n x) (find_name names v)) (word_is w u yes) set))
-          (λ no. h.each u ∙ unset slots n x (find_name names u) (λ m e same. not_both (bytes_eq w u) (same_word w u (one_word names m n u w e found same)) no));
+          (λ no. h.each u ∙ unset slots n x (find_name names u) (λ m e same. both_ways (bytes_eq w u) no (same_word w u (one_word names m n u w e found same))));
       long = length-set slots n x ∙ h.long;
     }
 

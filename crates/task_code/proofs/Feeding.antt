@@ -1,6 +1,7 @@
 -- What an entry makes of a task.
 use Rattle.std.proofs.Common.{◌≡◌, ℕ, Bool, true, false, List, [], ◌∷◌, drop, refl, sym, ap, ◌∙◌, subst}
 use Rattle.std.specs.Prelude.{ℤ, Option, Some, None, slice_get}
+use Rattle.task_machine.proofs.Stepping.{receives_open}
 use Rattle.fut_base.specs.declared.record.Value.{Value}
 use Rattle.fut_base.specs.declared.record.Value.TheVariants.{Int, Fut}
 use Rattle.fut_base.specs.declared.event.Action.{Action}
@@ -132,10 +133,6 @@ synced_todo : (P : tree.Program) (t : TaskCode) (s : TaskState) (held : Held) (t
     → received_by a ≡ None → IsSyncing (first_wish P s todo) → After P t held place a (slice_get t.instructions place) s.vars (after_sync todo)
 synced_todo P t s held [] place a h does got wish = ended_stays P t held s.vars place a (slice_get t.instructions place) h refl does
 synced_todo P t s held (stmt ∷ rest) place a h (next, first, does) got wish = synced_after P t s held stmt rest place next a h first does got wish
-
-receives_open : (s : TaskState) (todo : List tree.Stmt) (v : Value) → (receives s todo v).is_open ≡ s.is_open
-receives_open s [] v = refl
-receives_open s (stmt ∷ rest) v = refl
 
 pub fed_in : (P : tree.Program) (t : TaskCode) (spot : Spot) (held : Held) (s : TaskState) (a : Action) → IsIn P t spot held s → Answers (wish_of P s) a → ended_after spot.ended a ≡ false
     → IsIn P t (spot_after spot (slice_get t.instructions spot.place) a) (record { slots = slots_after held (slice_get t.instructions spot.place) a; rooms = held.rooms }) (effect_of s a)

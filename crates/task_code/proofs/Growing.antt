@@ -1,7 +1,8 @@
 -- Code that others are put behind does what it did.
-use Rattle.std.proofs.Common.{◌≡◌, ℕ, zero, suc, ◌+◌, ◌-◌, ◌<◌, ◌≤◌, List, [], ◌∷◌, ◌++◌, length, drop, get_or, refl, sym, ap, ◌∙◌, subst, arith, append_assoc, length-append}
+use Rattle.std.proofs.Common.{◌≡◌, ℕ, zero, suc, ◌+◌, ◌-◌, ◌<◌, ◌≤◌, List, [], ◌∷◌, ◌++◌, length, drop, get_or, refl, sym, ap, ◌∙◌, subst, arith, append_assoc, length-append, le_refl}
 use Rattle.std.specs.Prelude.{Some, slice_get, Result, Ok, Err, IfOk, OnOk}
-use Rattle.std.proofs.lemmas.List.{append-nil}
+use Rattle.std.proofs.lemmas.List.{append-nil, drop_all}
+use Rattle.fut_rules.proofs.Drops.{dropped}
 use Rattle.fut_base.specs.declared.list.NoMemory.{NoMemory}
 use Rattle.fut_syntax.specs.declared.tree.Stmt.{Stmt}
 use Rattle.fut_syntax.specs.Trees as tree
@@ -94,22 +95,13 @@ while_added g s e b test next then entry c0 c1 c2 (Err x) is means y there p = t
 
 -- ---- the loop over a block
 
-dropped : {X : Type 0} (xs : List X) (i : ℕ) (x : X) → i < length xs → x ≡ get_or xs i x → drop i xs ≡ x ∷ drop (suc i) xs
-dropped [] i x h e = absurd (omega arith)
-dropped (y ∷ xs) zero x h e = ap (λ z. z ∷ xs) (sym e)
-dropped (y ∷ xs) (suc i) x h e = dropped xs i x (omega arith) e
-
-nothing_left : {X : Type 0} (xs : List X) → drop (length xs) xs ≡ []
-nothing_left [] = refl
-nothing_left (x ∷ xs) = nothing_left xs
-
 pub block_begun : (g : Place) (code : List Instruction) (stmts : List Stmt) (next : ℕ) → DoesBlock g code (block_tree (drop (length stmts) stmts)) next next
-block_begun g code stmts next = subst (λ ss. DoesBlock g code (block_tree ss) next next) (sym (nothing_left stmts)) refl
+block_begun g code stmts next = subst (λ ss. DoesBlock g code (block_tree ss) next next) (sym (drop_all (length stmts) stmts (le_refl (length stmts)))) refl
 
 pub block_longer : (g : Place) (old new : List Instruction) (stmts : List Stmt) (i : ℕ) (s : Stmt) (next entry at : ℕ) → 0 < i → i ≤ length stmts → s ≡ get_or stmts (i - 1) s → Grows old new × DoesStmt g new (stmt_tree s) entry at
     → DoesBlock g old (block_tree (drop i stmts)) next entry → DoesBlock g new (block_tree (drop (i - 1) stmts)) next at
 block_longer g old new stmts i s next entry at some le read x h =
-    let one : suc (i - 1) ≡ i = omega arith in
+    let one : (i - 1) + 1 ≡ i = omega arith in
     let split : drop (i - 1) stmts ≡ s ∷ drop i stmts = dropped stmts (i - 1) s (omega arith) read ∙ ap (λ n. s ∷ drop n stmts) one in
     subst (λ ss. DoesBlock g new (block_tree ss) next at) (sym split) (entry, x.1, block_grown g old new (block_tree (drop i stmts)) next entry x.0 h)
 
@@ -120,7 +112,7 @@ block_done g code stmts i next entry none h = subst (λ n. DoesBlock g code (blo
 
 pub block_counted : (stmts : List Stmt) (i : ℕ) (s : Stmt) → 0 < i → i ≤ length stmts → s ≡ get_or stmts (i - 1) s → instructions_in (block_tree (drop (i - 1) stmts)) ≡ instructions_for (stmt_tree s) + instructions_in (block_tree (drop i stmts))
 block_counted stmts i s some le read =
-    let one : suc (i - 1) ≡ i = omega arith in
+    let one : (i - 1) + 1 ≡ i = omega arith in
     ap (λ ss. instructions_in (block_tree ss)) (dropped stmts (i - 1) s (omega arith) read ∙ ap (λ n. s ∷ drop n stmts) one)
 
 pub rest_fewer : (stmts : List Stmt) (i : ℕ) → instructions_in (block_tree (drop i stmts)) ≤ instructions_in (block_tree stmts)
@@ -130,7 +122,7 @@ rest_fewer (s ∷ stmts) zero = omega arith
 rest_fewer (s ∷ stmts) (suc i) = let r = rest_fewer stmts i in omega (arith, r)
 
 pub none_begun : (stmts : List Stmt) → instructions_in (block_tree (drop (length stmts) stmts)) ≡ 0
-none_begun stmts = ap (λ ss. instructions_in (block_tree ss)) (nothing_left stmts)
+none_begun stmts = ap (λ ss. instructions_in (block_tree ss)) (drop_all (length stmts) stmts (le_refl (length stmts)))
 
 pub pushed_count : (old new : List Instruction) (i : Instruction) (r : Result ℕ NoMemory) (n : ℕ) → length old ≡ n → IfOk r (λ at. Pushed old new i at) → OnOk r (length new ≡ n + 1)
 pushed_count old new i (Ok at) n is p = ap length p.0 ∙ (length-append old (i ∷ []) ∙ ap (λ k. k + 1) is)

@@ -1,5 +1,5 @@
 -- Terms that mean what expressions do.
-use Rattle.std.proofs.Common.{◌≡◌, ℕ, zero, suc, ◌≤◌, List, [], ◌∷◌, ◌++◌, length, drop, refl, sym, ap, ◌∙◌, subst, arith}
+use Rattle.std.proofs.Common.{◌≡◌, ℕ, ◌≤◌, List, [], ◌++◌, length, drop, refl, sym, ap, ◌∙◌, subst}
 use Rattle.std.specs.Prelude.{ℤ, pos, Some, None, Result, Ok, Err, IfOk}
 use Rattle.std.specs.Int.{w64, int_wrapping_neg}
 use Rattle.fut_base.specs.declared.record.Value.TheVariants.{Int}
@@ -8,7 +8,7 @@ use Rattle.fut_syntax.specs.Trees as tree
 use Rattle.fut_syntax.specs.declared.tree.Expr.{Expr}
 use Rattle.fut_syntax.specs.Views.{op_tree, args_tree}
 use Rattle.fut_base.specs.declared.list.NoMemory.{NoMemory}
-use Rattle.std.proofs.lemmas.List.{append-nil}
+use Rattle.std.proofs.lemmas.List.{append-nil, drop_all}
 use Rattle.task_machine.specs.Values.{number_of, truth, is_zero, combine}
 use Rattle.task_machine.specs.Variables.{Slot, One, value_of, signed, slot_in, operand_in, primary_in}
 use Rattle.task_frame.specs.declared.term.Term.{Term, Number, Variable, Negative, Inverted, Pair, Negative', Inverted', Pair'}
@@ -52,15 +52,9 @@ pub each_signed : (names : List Name) (sign : tree.Sign) (p : tree.Primary) (o :
 each_signed names sign p o of (Ok t) is m h = subst (λ (x : tree.Operand). Means names (λ vars. operand_in vars x) t) (sym is) (means_signed names sign p of t m h)
 each_signed names sign p o of (Err e) is m h = tt
 
-nothing_left : {X : Type 0} (xs : List X) (i : ℕ) → length xs ≤ i → drop i xs ≡ []
-nothing_left [] zero h = refl
-nothing_left [] (suc i) h = refl
-nothing_left (x ∷ xs) zero h = absurd (omega arith)
-nothing_left (x ∷ xs) (suc i) h = nothing_left xs i (omega arith)
-
 pub all_meant : (names : List Name) (args : List Expr) (i : ℕ) (ts out : List Term) → length args ≤ i → out ≡ ts → ((more : List Term) → MeanAll names (args_tree (drop i args)) more → MeanAll names (args_tree args) (ts ++ more)) → MeanAll names (args_tree args) out
 all_meant names args i ts out le is h =
-    subst (λ c. MeanAll names (args_tree args) c) (append-nil ts ∙ sym is) (h [] (subst (λ d. MeanAll names (args_tree d) []) (sym (nothing_left args i le)) tt))
+    subst (λ c. MeanAll names (args_tree args) c) (append-nil ts ∙ sym is) (h [] (subst (λ d. MeanAll names (args_tree d) []) (sym (drop_all i args le)) tt))
 
 pub means_pair : (names : List Name) (x y : tree.Operand) (op : Operator) (a b : Term) → Means names (λ vars. operand_in vars x) a → Means names (λ vars. operand_in vars y) b → Means names (λ vars. slot_in vars (tree.Pair x (op_tree op) y)) (Pair a op b)
 means_pair names x y op a b m n =

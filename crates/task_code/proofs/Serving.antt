@@ -1,6 +1,8 @@
 -- A well-typed text of fewer than 2^32 tokens has what the compiler asks for.
-use Rattle.std.proofs.Common.{◌≡◌, ℕ, zero, suc, ◌+◌, ◌*◌, ◌<◌, ◌≤◌, ◌^◌, Bool, true, false, List, [], ◌∷◌, ◌++◌, length, refl, sym, ap, ◌∙◌, subst, arith, length-append, append_assoc, add-one, ltb-false, get_or, drop, eq-eqb}
-use Rattle.std.specs.Prelude.{Some, None, nat_eq, nat_lt, ◌||◌, ◌&&◌, slice_index, IsSomeAnd}
+use Rattle.std.proofs.Common.{◌≡◌, ℕ, zero, suc, ◌+◌, ◌*◌, ◌<◌, ◌≤◌, ◌^◌, true, false, List, [], ◌∷◌, ◌++◌, length, refl, sym, ap, ◌∙◌, subst, arith, length-append, append_assoc, add-one, ltb-false, get_or, drop, eq-eqb}
+use Rattle.std.specs.Prelude.{Some, None, nat_eq, nat_lt, ◌&&◌, slice_index, IsSomeAnd}
+use Rattle.std.proofs.lemmas.Option.{same_Some}
+use Rattle.std.proofs.lemmas.Bool.{or_parts, and_parts}
 use Rattle.fut_syntax.specs.Trees as tree
 use Rattle.fut_syntax.specs.declared.tree.Item as code
 use Rattle.fut_syntax.specs.declared.tree.Item.TheVariants as item
@@ -34,20 +36,12 @@ use Rattle.task_code.specs.Serving.{HasVariable, IsTask, ServesInit, ServesStmt,
 
 -- ---- types
 
-and_both : (a b : Bool) → (a && b) ≡ true → (a ≡ true) × (b ≡ true)
-and_both true b h = (refl, h)
-and_both false b h = absurd (let e : false ≡ true = h in cc)
-
-or_false : (a b : Bool) → (a || b) ≡ false → (a ≡ false) × (b ≡ false)
-or_false true b h = absurd (let e : true ≡ false = h in cc)
-or_false false b h = (refl, h)
-
 -- an array that breaks no rule has at most 64 elements
 small_type : (n : ℕ) (v : tree.VarType) → type_faults n v ≡ [] → size_of v ≤ 64
 small_type n (tree.Plain d) f = omega arith
 small_type n (tree.Array d m) f =
     let parts = nil_three (depth_faults n d) (fault_if (nat_eq d 0) (n + d) rule.IntForHandle) (fault_if (is_bad_length m) (n + d + 2) rule.ArrayLength) f in
-    let le : m ≤ 64 = ltb-false 64 m (or_false (nat_eq m 0) (nat_lt 64 m) (not_found (is_bad_length m) (n + d + 2) rule.ArrayLength parts.2)).1 in
+    let le : m ≤ 64 = ltb-false 64 m (or_parts (nat_eq m 0) (nat_lt 64 m) (not_found (is_bad_length m) (n + d + 2) rule.ArrayLength parts.2)).1 in
     omega (arith, le)
 
 has_room : (names : List Name) (n : ℕ) (v : tree.VarType) → size_of v ≤ 64 → room_of v ≤ slice_index (rooms_by names) n → HasRoom (rooms_by names) n v
@@ -88,23 +82,23 @@ mutual
   serves_stmt g s n (tree.Assign w i) f h k =
       let part = nil_right (broken (assigned_rule (kind_named s.visible w)) n) (init_faults g.items s.visible (n + 2) (value_need (kind_named s.visible w)) i) f in
       ((h.0.number, h.0.found), serves_init g s.visible (n + 2) (value_need (kind_named s.visible w)) i part h.1 k)
-  serves_stmt g s n (tree.Store w e x) f h k = and_both (expr_fits e) (expr_fits x) k
+  serves_stmt g s n (tree.Store w e x) f h k = and_parts (expr_fits e) (expr_fits x) k
   serves_stmt g s n (tree.SpawnOf w es) f h k = (is_task g.items s.visible (n + 1) w es f, k)
   serves_stmt g s n tree.SyncAll f h k = tt
   serves_stmt g s n (tree.If' e b o) f h k =
       let parts = if_parts g.items s n e b o f in
-      let fits = and_both (expr_fits e && block_fits b) (tail_fits o) k in
-      let front = and_both (expr_fits e) (block_fits b) fits.0 in
+      let fits = and_parts (expr_fits e && block_fits b) (tail_fits o) k in
+      let front = and_parts (expr_fits e) (block_fits b) fits.0 in
       (front.0, serves_block g s (n + 1 + expr_width e + 1) b parts.block h.0 front.1, serves_tail g (with_declared s (declared_in_block b)) (n + 1 + expr_width e + 1 + block_width b + 1) o parts.tail h.1 fits.1)
   serves_stmt g s n (tree.While' e b) f h k =
-      let fits = and_both (expr_fits e) (block_fits b) k in
+      let fits = and_parts (expr_fits e) (block_fits b) k in
       (fits.0, serves_block g s (n + 1 + expr_width e + 1) b (while_block g.items s n e b f) h fits.1)
   serves_stmt g s n (tree.Return' e) f h k = k
 
   pub serves_block : (g : Place) (s : Scope) (n : ℕ) (b : tree.Block) → block_faults g.items s n b ≡ [] → HasBlock g.names b → block_fits b ≡ true → ServesBlock g b
   serves_block g s n tree.Done f h k = tt
   serves_block g s n (tree.Then x b) f h k =
-      let fits = and_both (stmt_fits x) (block_fits b) k in (
+      let fits = and_parts (stmt_fits x) (block_fits b) k in (
         serves_stmt g s n x (nil_left (stmt_faults g.items s n x) (block_faults g.items (scope_after s x) (n + stmt_width x) b) f) h.0 fits.0,
         serves_block g (scope_after s x) (n + stmt_width x) b (nil_right (stmt_faults g.items s n x) (block_faults g.items (scope_after s x) (n + stmt_width x) b) f) h.1 fits.1,
       )
@@ -141,7 +135,7 @@ few_params items before n (p ∷ ps) le f =
     let own = nil_left (param_faults items before n p) (params_faults items (before ++ param_variable p ∷ []) (n + param_width p) ps) f in
     let rest = nil_right (param_faults items before n p) (params_faults items (before ++ param_variable p ∷ []) (n + param_width p) ps) f in
     let parts = nil_three (declared_faults items before n (param_variable p)) (fault_if (is_over before (kind_of p.type)) n rule.ConstantLimit) (type_faults (n + 2) p.type) own in
-    let not_eight = not_eq (length before) 8 (or_false (nat_eq (length before) 8) (nat_lt 16 (slots before + size (kind_of p.type))) (not_found (is_over before (kind_of p.type)) n rule.ConstantLimit parts.1)).0 in
+    let not_eight = not_eq (length before) 8 (or_parts (nat_eq (length before) 8) (nat_lt 16 (slots before + size (kind_of p.type))) (not_found (is_over before (kind_of p.type)) n rule.ConstantLimit parts.1)).0 in
     let one = length-append before (param_variable p ∷ []) in
     let more = few_params items (before ++ param_variable p ∷ []) (n + param_width p) ps (below_next (length before) (length (before ++ param_variable p ∷ [])) le not_eight one) rest in
     omega (arith, one, more)
@@ -200,7 +194,7 @@ module _ (globals : List tree.Item) where
       are_sound (before ++ tree.CellsOf w m ∷ []) (n + item_width (tree.CellsOf w m)) rest
       (nil_right (item_faults globals before n (tree.CellsOf w m)) (items_faults globals (before ++ tree.CellsOf w m ∷ []) (n + item_width (tree.CellsOf w m)) rest) f) (omega (arith, few)) k
   are_sound before n (tree.TaskOf w ps d b ∷ rest) f few k =
-      let fits = and_both (block_fits b) (items_fit rest) k in
+      let fits = and_parts (block_fits b) (items_fit rest) k in
       let i = tree.TaskOf w ps d b in
       let own = nil_left (item_faults globals before n i) (items_faults globals (before ++ i ∷ []) (n + item_width i) rest) f in
       let later = nil_right (item_faults globals before n i) (items_faults globals (before ++ i ∷ []) (n + item_width i) rest) f in
@@ -229,7 +223,7 @@ module _ (globals : List tree.Item) where
       let i = tree.CellsOf w m in
       let own = nil_left (item_faults globals before n i) (items_faults globals (before ++ i ∷ []) (n + item_width i) rest) f in
       let bad = not_found (is_bad_array before m) (n + 3) rule.ConstantLimit (nil_right (fault_if (declares before w) (n + 1) rule.DoubledName) (fault_if (is_bad_array before m) (n + 3) rule.ConstantLimit) own) in (
-        not_zero m (or_false (nat_eq m 0) (nat_lt 65536 (cells before + m)) bad).0,
+        not_zero m (or_parts (nat_eq m 0) (nat_lt 65536 (cells before + m)) bad).0,
         have_cells (before ++ i ∷ []) (n + item_width i) rest (nil_right (item_faults globals before n i) (items_faults globals (before ++ i ∷ []) (n + item_width i) rest) f),
       )
     where
@@ -242,7 +236,7 @@ cells_more [] i = omega arith
 cells_more (tree.CellsOf w m ∷ before) i = let r = cells_more before i in omega (arith, r)
 cells_more (tree.TaskOf w ps d b ∷ before) i = cells_more before i
 
-few_cells : (globals before : List tree.Item) (n : ℕ) (items : List tree.Item) → cells before ≤ 65536 → items_faults globals before n items ≡ [] → cells before + count_cells items ≤ 65536
+pub few_cells : (globals before : List tree.Item) (n : ℕ) (items : List tree.Item) → cells before ≤ 65536 → items_faults globals before n items ≡ [] → cells before + count_cells items ≤ 65536
 few_cells globals before n [] le f = omega arith
 few_cells globals before n (tree.TaskOf w ps d b ∷ rest) le f =
     let i = tree.TaskOf w ps d b in
@@ -254,7 +248,7 @@ few_cells globals before n (tree.CellsOf w m ∷ rest) le f =
     let more = cells_more before i in
     let own = nil_left (item_faults globals before n i) (items_faults globals (before ++ i ∷ []) (n + item_width i) rest) f in
     let bad = not_found (is_bad_array before m) (n + 3) rule.ConstantLimit (nil_right (fault_if (declares before w) (n + 1) rule.DoubledName) (fault_if (is_bad_array before m) (n + 3) rule.ConstantLimit) own) in
-    let low : cells before + m ≤ 65536 = ltb-false 65536 (cells before + m) (or_false (nat_eq m 0) (nat_lt 65536 (cells before + m)) bad).1 in
+    let low : cells before + m ≤ 65536 = ltb-false 65536 (cells before + m) (or_parts (nat_eq m 0) (nat_lt 65536 (cells before + m)) bad).1 in
     let r = few_cells globals (before ++ i ∷ []) (n + item_width i) rest (omega (arith, more, low)) (nil_right (item_faults globals before n i) (items_faults globals (before ++ i ∷ []) (n + item_width i) rest) f) in
     omega (arith, more, r)
 
@@ -324,9 +318,6 @@ module _ (items : List tree.Item) (ps : List tree.Param) (b : tree.Block) (x : I
 
 -- ---- one parameter
 
-some_is : (a b : ℕ) → Some a ≡ Some b → a ≡ b
-some_is a b h = cc
-
 param_dropped : (ps : List Param) (i : ℕ) (p : Param) → i < length ps → p ≡ get_or ps i p → params_tree (drop i ps) ≡ param_tree p ∷ params_tree (drop (suc i) ps)
 param_dropped [] i p lt is = absurd (omega arith)
 param_dropped (q ∷ ps) zero p lt is = ap (λ r. param_tree r ∷ params_tree ps) (sym is)
@@ -356,7 +347,7 @@ module _ (names : List Name) (ps : List Param) (i first : ℕ) (given : List Giv
       let h = served_rest in
       let next = param_next ps i p lt is in
       let own : Given = record { variable = v; first = first; kind = p.kind } in
-      let same : h.0.number ≡ v = some_is h.0.number v (sym h.0.found ∙ found) in
+      let same : h.0.number ≡ v = same_Some h.0.number v (sym h.0.found ∙ found) in
       record {
         all = λ more rest.
             subst (AreGiven names 0 (params_tree ps)) (ap (λ (l : List Given). l ++ more) (sym added))
@@ -379,5 +370,5 @@ sound_at globals (item.Task v qs e c ∷ items) (suc i) x w ps d b lt read is h 
 
 pub fits_at : (es : List Expr) (i : ℕ) (e : Expr) → i < length es → e ≡ get_or es i e → each_fits (args_tree es) ≡ true → expr_fits (expr_tree e) ≡ true
 fits_at [] i e lt read h = absurd (omega arith)
-fits_at (x ∷ es) zero e lt read h = ap (λ y. expr_fits (expr_tree y)) read ∙ (and_both (expr_fits (expr_tree x)) (each_fits (args_tree es)) h).0
-fits_at (x ∷ es) (suc i) e lt read h = fits_at es i e (omega arith) read (and_both (expr_fits (expr_tree x)) (each_fits (args_tree es)) h).1
+fits_at (x ∷ es) zero e lt read h = ap (λ y. expr_fits (expr_tree y)) read ∙ (and_parts (expr_fits (expr_tree x)) (each_fits (args_tree es)) h).0
+fits_at (x ∷ es) (suc i) e lt read h = fits_at es i e (omega arith) read (and_parts (expr_fits (expr_tree x)) (each_fits (args_tree es)) h).1

@@ -2,7 +2,10 @@
 use Rattle.std.proofs.Common.{◌≡◌, ℕ, suc, ◌+◌, ◌<◌, ◌≤◌, Bool, cond, List, [], ◌∷◌, ◌++◌, length, min, replicate, refl, sym, ap, ◌∙◌, subst, arith}
 use Rattle.std.specs.Prelude.{ℤ, pos, Option, Some, None, bytes_eq, slice_get, slice_set, slice_index, option_map}
 use Rattle.std.proofs.lemmas.List.{get_or-set_same, get_or-set_other, length-set}
-use Rattle.std.proofs.lemmas.Option.{slice_get_within}
+use Rattle.std.proofs.lemmas.Option.{slice_get_within, same_Some}
+use Rattle.std.proofs.lemmas.Bool.{both_ways}
+use Rattle.task_frame.proofs.Laying.{shape_count}
+use Rattle.fut_base.proofs.Cases.{by_bool}
 use Rattle.fut_base.specs.declared.record.Value.{Value}
 use Rattle.fut_base.specs.declared.record.Value.TheVariants.{Int}
 use Rattle.fut_syntax.specs.Trees as tree
@@ -11,7 +14,7 @@ use Rattle.task_machine.specs.Values.{number_of, is_zero, index_of}
 use Rattle.task_machine.specs.Variables.{Slot, One, Many, Variables, slot_at, put, value_of, values_of, filled, refilled, value_in, number_in, values_in, slot_in}
 use Rattle.task_machine.specs.Texts.{CellArray, cell_arrays, cell_at, find_cell, stmts_of, else_of}
 use Rattle.task_machine.specs.State.{TaskState, ToSpawn, element_of, local_value, init_step, store_step, first_step, local_step, goes_on, set_by, read_of, write_of, get_of, spawn_of, create_of, end_of, wish_of_init, wish_by, wish_of}
-use Rattle.task_types.proofs.Slots.{by_bool, some_one, same_word, word_is, not_both, slot_put_same, slot_put_other}
+use Rattle.task_types.proofs.Slots.{same_word, word_is, slot_put_same, slot_put_other}
 use Rattle.task_frame.specs.declared.term.Term.{Term, Number}
 use Rattle.task_frame.specs.declared.frame.Shape.TheVariants as shape
 use Rattle.task_frame.specs.declared.names.Name.{Name}
@@ -43,7 +46,7 @@ found_at : (names : List Name) (k n : ℕ) (w : List ℕ) → find_from k names 
 found_at [] k n w h = absurd (cc)
 found_at (d ∷ ds) k n w h =
     by_bool (λ b. cond b (Some k) (find_from (k + 1) ds w) ≡ Some n → FoundAt k (d ∷ ds) w n) (bytes_eq d.word w)
-    (λ yes e. record { index = 0; is = (let q : k ≡ n = some_one k n e in omega arith); name = d; there = refl; word = word_is d.word w yes })
+    (λ yes e. record { index = 0; is = (let q : k ≡ n = same_Some k n e in omega arith); name = d; there = refl; word = word_is d.word w yes })
     (λ no e. (let r = found_at ds (k + 1) n w e in record { index = suc r.index; is = omega (arith, r.is); name = r.name; there = r.there; word = r.word }))
     h
 
@@ -57,7 +60,7 @@ one_word names m n u w a b same =
     let x = found_at names 0 m u a in
     let y = found_at names 0 n w b in
     let index : x.index ≡ y.index = omega (arith, x.is, y.is) in
-    let name : x.name ≡ y.name = some_one x.name y.name (sym x.there ∙ ap (slice_get names) index ∙ y.there) in
+    let name : x.name ≡ y.name = same_Some x.name y.name (sym x.there ∙ ap (slice_get names) index ∙ y.there) in
     sym y.word ∙ ap (λ (d : Name). d.word) (sym name) ∙ x.word
 
 pub unset : (slots : List Slot) (n : ℕ) (x : Slot) (o : Option ℕ) → ((m : ℕ) → o ≡ Some m → m ≡ n → ⊥) → slot_for slots o ≡ slot_for (slice_set slots n x) o
@@ -72,7 +75,7 @@ holds_put names vars slots w n x h found =
           let set : slot_at (put vars w x) w ≡ slot_for (slice_set slots n x) (find_name names w) =
           slot_put_same vars w x ∙ sym (get_or-set_same slots n x zero_slot (omega (arith, below_names names n w found, h.long))) ∙ ap (slot_for (slice_set slots n x)) (sym found) in
           subst (λ v. slot_at (put vars w x) v ≡ slot_for (slice_set slots n x) (find_name names v)) (word_is w u yes) set))
-          (λ no. slot_put_other vars w x u no ∙ h.each u ∙ unset slots n x (find_name names u) (λ m e same. not_both (bytes_eq w u) (same_word w u (one_word names m n u w e found same)) no));
+          (λ no. slot_put_other vars w x u no ∙ h.each u ∙ unset slots n x (find_name names u) (λ m e same. both_ways (bytes_eq w u) no (same_word w u (one_word names m n u w e found same))));
       long = length-set slots n x ∙ h.long;
     }
 
@@ -252,14 +255,11 @@ followed P t is_open held vars (stmt ∷ rest) place h rooms (next, first, does)
 
 -- ---- an element is set
 
-many_count : (a b : ℕ) → shape.Many a ≡ shape.Many b → a ≡ b
-many_count a b h = cc
-
 stored : (slots : List Slot) (n : ℕ) (s : Slot) (z : ℤ) (x : Value) (count place : ℕ) (new : List Slot) → shape_of s ≡ shape.Many count → (1 ≤ count → place ≡ index_of count z) → new ≡ slice_set slots n (with_element s place x) → store_slots slots (Some n) s z x ≡ Some new
 stored slots n (One v) z x count place new shape at is = absurd (cc)
 stored slots n (Many []) z x count place new shape at is = ap Some (sym is)
 stored slots n (Many (v ∷ vs)) z x count place new shape at is =
-    let size : suc (length vs) ≡ count = many_count (suc (length vs)) count shape in
+    let size : suc (length vs) ≡ count = shape_count (suc (length vs)) count shape in
     let place_is : place ≡ index_of (suc (length vs)) z = at (omega (arith, size)) ∙ ap (λ m. index_of m z) (sym size) in
     ap Some (sym (is ∙ ap (λ p. slice_set slots n (Many (slice_set (v ∷ vs) p x))) place_is))
 

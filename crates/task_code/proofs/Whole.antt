@@ -1,7 +1,10 @@
 -- The code of a whole program.
-use Rattle.std.proofs.Common.{◌≡◌, ℕ, zero, suc, ◌+◌, ◌<◌, ◌≤◌, inl, inr, List, [], ◌∷◌, ◌++◌, length, drop, get_or, append_assoc, refl, sym, ap, ◌∙◌, subst, arith}
+use Rattle.std.proofs.Common.{◌≡◌, ℕ, ◌+◌, ◌<◌, ◌≤◌, inl, inr, List, [], ◌∷◌, ◌++◌, length, drop, get_or, append_assoc, sym, ap, ◌∙◌, subst, arith}
 use Rattle.std.specs.Prelude.{Some}
-use Rattle.std.proofs.lemmas.List.{append-nil, length-map}
+use Rattle.std.proofs.lemmas.List.{append-nil, length-map, drop_all}
+use Rattle.std.proofs.lemmas.Bool.{cases_lt}
+use Rattle.std.proofs.lemmas.Option.{same_Some}
+use Rattle.fut_rules.proofs.Drops.{dropped}
 use Rattle.fut_syntax.specs.declared.tree.Param.{Param}
 use Rattle.fut_syntax.specs.declared.tree.Item.{Item}
 use Rattle.fut_syntax.specs.declared.tree.Item.TheVariants as item
@@ -15,28 +18,16 @@ use Rattle.task_code.specs.declared.code.Given.{Given}
 use Rattle.task_code.specs.declared.code.TaskCode.{TaskCode}
 use Rattle.task_frame.specs.Arrays.{HasCell}
 use Rattle.task_code.specs.Flat.{AreGiven, AreCodesOf, IsCodeOfTask, Compiled, IsCodeOf}
-use Rattle.task_frame.proofs.Laying.{below_or}
-
-nothing_left : {X : Type 0} (xs : List X) (i : ℕ) → length xs ≤ i → drop i xs ≡ []
-nothing_left [] zero h = refl
-nothing_left [] (suc i) h = refl
-nothing_left (x ∷ xs) zero h = absurd (omega arith)
-nothing_left (x ∷ xs) (suc i) h = nothing_left xs i (omega arith)
 
 pub all_given : (names : List Name) (params : List Param) (i first : ℕ) (given out : List Given) → length params ≤ i → out ≡ given
     → ((more : List Given) → AreGiven names first (params_tree (drop i params)) more → AreGiven names 0 (params_tree params) (given ++ more)) → AreGiven names 0 (params_tree params) out
 all_given names params i first given out le is h =
-    subst (λ c. AreGiven names 0 (params_tree params) c) (append-nil given ∙ sym is) (h [] (subst (λ d. AreGiven names first (params_tree d) []) (sym (nothing_left params i le)) tt))
+    subst (λ c. AreGiven names 0 (params_tree params) c) (append-nil given ∙ sym is) (h [] (subst (λ d. AreGiven names first (params_tree d) []) (sym (drop_all i params le)) tt))
 
 pub all_coded : (items : List tree.Item) (xs : List Item) (i : ℕ) (codes out : List TaskCode) → length xs ≤ i → out ≡ codes
     → ((more : List TaskCode) → AreCodesOf items (tasks_from (items_tree (drop i xs))) more → AreCodesOf items (tasks_from (items_tree xs)) (codes ++ more)) → AreCodesOf items (tasks_from (items_tree xs)) out
 all_coded items xs i codes out le is h =
-    subst (λ c. AreCodesOf items (tasks_from (items_tree xs)) c) (append-nil codes ∙ sym is) (h [] (subst (λ d. AreCodesOf items (tasks_from (items_tree d)) []) (sym (nothing_left xs i le)) tt))
-
-dropped : {X : Type 0} (xs : List X) (i : ℕ) (x : X) → i < length xs → x ≡ get_or xs i x → drop i xs ≡ x ∷ drop (i + 1) xs
-dropped [] i x h e = absurd (omega arith)
-dropped (y ∷ xs) zero x h e = ap (λ z. z ∷ xs) (sym e)
-dropped (y ∷ xs) (suc i) x h e = dropped xs i x (omega arith) e ∙ ap (λ n. x ∷ drop n (y ∷ xs)) (let q : suc (i + 1) ≡ suc i + 1 = omega arith in q)
+    subst (λ c. AreCodesOf items (tasks_from (items_tree xs)) c) (append-nil codes ∙ sym is) (h [] (subst (λ d. AreCodesOf items (tasks_from (items_tree d)) []) (sym (drop_all i xs le)) tt))
 
 pub task_coded : (items : List tree.Item) (xs : List Item) (i : ℕ) (x : Item) (name : List ℕ) (ps : List Param) (d : ℕ) (b : List Stmt) (codes next : List TaskCode) (code : TaskCode) → i < length xs → x ≡ get_or xs i x → x ≡ item.Task name ps d b → next ≡ codes ++ code ∷ []
     → IsCodeOfTask items (record { name = name; params = params_tree ps; body = block_tree b }) code
@@ -64,19 +55,16 @@ tasks_few (tree.TaskOf w ps d b ∷ rest) = omega (arith, tasks_few rest)
 pub tasks_below : (xs : List Item) (n : ℕ) → length xs < n → length (tasks_from (items_tree xs)) < n
 tasks_below xs n h = omega (arith, tasks_few (items_tree xs), length-map xs item_tree)
 
-some_same : {X : Type 0} (x y : X) → Some x ≡ Some y → x ≡ y
-some_same x y h = cc
-
 pub items_are : (xs : List Item) (P : tree.Program) → program_tree xs ≡ Some P → items_of P ≡ items_tree xs
 items_are [] P h = absurd (cc)
-items_are (x ∷ xs) P h = sym (ap items_of (some_same _ P h))
+items_are (x ∷ xs) P h = sym (ap items_of (same_Some _ P h))
 
 -- ---- the array that has a cell
 
 arrays_cover : (items : List tree.Item) (f cell : ℕ) → f ≤ cell → cell < f + count_cells items → HasCell cell (arrays_from f items)
 arrays_cover [] f cell low high = absurd (omega arith)
 arrays_cover (tree.CellsOf name n ∷ rest) f cell low high =
-    elim (below_or cell (f + n)) [
+    elim (cases_lt cell (f + n)) [
       | inl below ↦ inl (low, below)
       | inr above ↦ inr (arrays_cover rest (f + n) cell above (omega arith))
     ]
@@ -88,4 +76,4 @@ code_covers P code cell is below = subst (HasCell cell) (sym is.arrays) (arrays_
 -- the search for a cell that some array has does not come to its end
 pub cell_not_passed : (P : tree.Program) (code : Compiled) (cell i : ℕ) (read : List CellArray) → read ≡ code.arrays → IsCodeOf P code → cell < code.cells → length read ≤ i → (HasCell cell read → HasCell cell (drop i read)) → ⊥
 cell_not_passed P code cell i read same is below le keeps =
-    subst (HasCell cell) (nothing_left read i le) (keeps (subst (HasCell cell) (sym same) (code_covers P code cell is below)))
+    subst (HasCell cell) (drop_all i read le) (keeps (subst (HasCell cell) (sym same) (code_covers P code cell is below)))

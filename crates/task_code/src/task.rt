@@ -1,6 +1,7 @@
 //! Tasks.
 ghost use Rattle.std.specs.Prelude.{◌≡◌, ℕ, ◌+◌, ◌<◌, ◌≤◌, ◌^◌, Bool, false, List, [], ◌∷◌, ◌++◌, slice_get, IfOk, OnOk, OnErr, MatchOption, None, Some};
 ghost use Rattle.std.specs.Option.{option_copied};
+ghost use Rattle.fut_base.specs.declared.limits.TheConstants.{MOST_LOCAL_STEPS};
 ghost use Rattle.fut_base.specs.declared.record.Value.{Value as Carried};
 ghost use Rattle.fut_base.specs.Events.{action_of};
 ghost use Rattle.fut_syntax.specs.Trees as tree;
@@ -60,13 +61,14 @@ pub struct Task {
 
 impl Model for Task {
     ghost use Rattle.std.specs.Prelude.{◌≤◌};
+    ghost use Rattle.fut_base.specs.declared.limits.TheConstants.{MOST_LOCAL_STEPS};
     ghost use Rattle.task_code.specs.Tasks.{TaskNow};
 
     ghost Value = { TaskNow };
 
     ghost view = { λ t. record { number = t.number; which = t.which; spot = t.spot; held = t.frame; trace = t.trace } };
 
-    ghost invariant = { λ t. t.spot.steps ≤ 1000000 };
+    ghost invariant = { λ t. t.spot.steps ≤ MOST_LOCAL_STEPS };
 }
 
 impl Task {
@@ -111,7 +113,7 @@ impl Task {
     pub fn advance(&mut self, code: &Code, limit: u32) -> Wish
         requires running { self.old.spot.ended ≡ false }
         requires task { IsSomeTask code.now self.old }
-        requires most { limit ≤ 1000000 }
+        requires most { limit ≤ MOST_LOCAL_STEPS }
         ensures task { (self.new.number ≡ self.old.number) × (self.new.which ≡ self.old.which) × (self.new.spot.ended ≡ false) }
         ensures trace { self.new.trace ≡ self.old.trace }
         ensures state { (P : tree.Program) (args : List Carried) (s : TaskState) → IsCodeOf P code.now → IsTaskOf P code.now args self.old s → IsTaskOf P code.now args self.new s }
@@ -130,7 +132,7 @@ impl Task {
     fn turn(&mut self, code: &Code) -> Option<Wish>
         requires running { self.old.spot.ended ≡ false }
         requires task { IsSomeTask code.now self.old }
-        requires few { self.old.spot.steps < 1000000 }
+        requires few { self.old.spot.steps < MOST_LOCAL_STEPS }
         ensures { MatchOption result (Turned code.now self.old self.new) (λ w. (self.new ≡ self.old) × Told code.now self.old w) }
     {
         match code.instruction(self.which, self.spot.place) {

@@ -1,9 +1,11 @@
 -- Names are gathered: what had a variable with room still has one.
-use Rattle.std.proofs.Common.{◌≡◌, ℕ, zero, suc, ◌+◌, ◌<◌, ◌≤◌, Bool, true, false, List, [], ◌∷◌, ◌++◌, length, take, get_or, refl, sym, ap, ◌∙◌, subst, arith, length-append, add-one}
+use Rattle.std.proofs.Common.{◌≡◌, ℕ, zero, suc, ◌+◌, ◌<◌, ◌≤◌, true, false, List, [], ◌∷◌, ◌++◌, length, take, get_or, refl, sym, ap, ◌∙◌, subst, arith, length-append, add-one}
 use Rattle.std.specs.Prelude.{Some, None, max, slice_get, slice_set, slice_index, if◌then◌else◌, bytes_eq, Result, Ok, Err, OnOk}
 use Rattle.std.proofs.lemmas.List.{length-set}
 use Rattle.std.proofs.lemmas.Slice.Eq.{bytes_eq-Decides}
 use Rattle.std.proofs.Math.Seq.{take-suc}
+use Rattle.std.proofs.lemmas.Option.{same_Some}
+use Rattle.fut_base.proofs.Cases.{by_bool}
 use Rattle.fut_syntax.specs.declared.tree.Stmt.{Stmt}
 use Rattle.fut_syntax.specs.declared.tree.Param.{Param}
 use Rattle.fut_syntax.specs.Trees as tree
@@ -22,18 +24,11 @@ both (Err e) P Q p q = tt
 
 -- ---- finding
 
-by_test : (P : Bool → Type 0) (b : Bool) → (b ≡ true → P true) → (b ≡ false → P false) → P b
-by_test P true t f = t refl
-by_test P false t f = f refl
-
-some_same : {X : Type 0} (x y : X) → Some x ≡ Some y → x ≡ y
-some_same x y h = cc
-
 pub found_below : (k : ℕ) (names : List Name) (w : List ℕ) (n : ℕ) → find_from k names w ≡ Some n → n < k + length names
 found_below k [] w n h = absurd (let e : None ≡ Some n = h in cc)
 found_below k (d ∷ names) w n h =
-    by_test (λ b. (if b then Some k else find_from (k + 1) names w) ≡ Some n → n < k + length (d ∷ names)) (bytes_eq d.word w)
-    (λ t e. let s = some_same k n e in omega (arith, s))
+    by_bool (λ b. (if b then Some k else find_from (k + 1) names w) ≡ Some n → n < k + length (d ∷ names)) (bytes_eq d.word w)
+    (λ t e. let s = same_Some k n e in omega (arith, s))
     (λ f e. let r = found_below (k + 1) names w n e in omega (arith, r))
     h
 
@@ -42,13 +37,13 @@ found_below k (d ∷ names) w n h =
 found_still : (k : ℕ) (old : List Name) (place : ℕ) (d e : Name) → slice_get old place ≡ Some d → e.word ≡ d.word → (w : List ℕ) → find_from k (slice_set old place e) w ≡ find_from k old w
 found_still k [] place d e h same w = refl
 found_still k (x ∷ old) zero d e h same w =
-    let is : x ≡ d = some_same x d h in
+    let is : x ≡ d = same_Some x d h in
     ap (λ v. if bytes_eq v w then Some k else find_from (k + 1) old w) (same ∙ ap (λ (q : Name). q.word) (sym is))
 found_still k (x ∷ old) (suc place) d e h same w = ap (λ o. if bytes_eq x.word w then Some k else o) (found_still (k + 1) old place d e h same w)
 
 wider : (old : List Name) (place : ℕ) (d e : Name) → slice_get old place ≡ Some d → d.room ≤ e.room → (n : ℕ) → slice_index (rooms_by old) n ≤ slice_index (rooms_by (slice_set old place e)) n
 wider [] place d e h le n = omega arith
-wider (x ∷ old) zero d e h le zero = let is : x ≡ d = some_same x d h in let room = ap (λ (q : Name). q.room) is in omega (arith, room, le)
+wider (x ∷ old) zero d e h le zero = let is : x ≡ d = same_Some x d h in let room = ap (λ (q : Name). q.room) is in omega (arith, room, le)
 wider (x ∷ old) zero d e h le (suc n) = omega arith
 wider (x ∷ old) (suc place) d e h le zero = omega arith
 wider (x ∷ old) (suc place) d e h le (suc n) = wider old place d e h le n
@@ -87,16 +82,16 @@ has_widened old new w place room found x =
 found_more : (k : ℕ) (old : List Name) (d : Name) (w : List ℕ) (n : ℕ) → find_from k old w ≡ Some n → find_from k (old ++ d ∷ []) w ≡ Some n
 found_more k [] d w n h = absurd (let e : None ≡ Some n = h in cc)
 found_more k (x ∷ old) d w n h =
-    by_test (λ b. (if b then Some k else find_from (k + 1) old w) ≡ Some n → (if b then Some k else find_from (k + 1) (old ++ d ∷ []) w) ≡ Some n) (bytes_eq x.word w)
+    by_bool (λ b. (if b then Some k else find_from (k + 1) old w) ≡ Some n → (if b then Some k else find_from (k + 1) (old ++ d ∷ []) w) ≡ Some n) (bytes_eq x.word w)
     (λ t e. e) (λ f e. found_more (k + 1) old d w n e) h
 
 found_last : (k : ℕ) (old : List Name) (d : Name) (w : List ℕ) → bytes_eq d.word w ≡ true → find_from k old w ≡ None → find_from k (old ++ d ∷ []) w ≡ Some (k + length old)
 found_last k [] d w is h =
     let n : k ≡ k + 0 = omega arith in
-    by_test (λ b. b ≡ true → (if b then Some k else None) ≡ Some (k + 0)) (bytes_eq d.word w) (λ t e. ap (λ m. Some m) n) (λ f e. absurd (let q : false ≡ true = e in cc)) is
+    by_bool (λ b. b ≡ true → (if b then Some k else None) ≡ Some (k + 0)) (bytes_eq d.word w) (λ t e. ap (λ m. Some m) n) (λ f e. absurd (let q : false ≡ true = e in cc)) is
 found_last k (x ∷ old) d w is h =
     let n : (k + 1) + length old ≡ k + length (x ∷ old) = omega arith in
-    by_test (λ b. (if b then Some k else find_from (k + 1) old w) ≡ None → (if b then Some k else find_from (k + 1) (old ++ d ∷ []) w) ≡ Some (k + length (x ∷ old))) (bytes_eq x.word w)
+    by_bool (λ b. (if b then Some k else find_from (k + 1) old w) ≡ None → (if b then Some k else find_from (k + 1) (old ++ d ∷ []) w) ≡ Some (k + length (x ∷ old))) (bytes_eq x.word w)
     (λ t e. absurd (let q : Some k ≡ None = e in cc)) (λ f e. found_last (k + 1) old d w is e ∙ ap (λ m. Some m) n) h
 
 room_more : (old : List Name) (d : Name) (n : ℕ) → slice_index (rooms_by old) n ≤ slice_index (rooms_by (old ++ d ∷ [])) n

@@ -1,9 +1,11 @@
 -- Values that lie in one list, variable behind variable.
-use Rattle.std.proofs.Common.{◌≡◌, ℕ, zero, suc, ◌+◌, ◌-◌, ◌<◌, ◌≤◌, ◌⊎◌, inl, inr, min, List, [], ◌∷◌, ◌++◌, length, map, take, drop, get_or, replicate, refl, sym, ap, ◌∙◌, subst, arith, append_assoc}
+use Rattle.std.proofs.Common.{◌≡◌, ℕ, zero, suc, ◌+◌, ◌-◌, ◌<◌, ◌≤◌, inl, inr, min, List, [], ◌∷◌, ◌++◌, length, map, take, drop, get_or, replicate, refl, sym, ap, ◌∙◌, subst, arith, append_assoc}
 use Rattle.std.specs.Prelude.{Some, None, slice_get, slice_set, slice_index, max}
 use Rattle.std.proofs.lemmas.List.{map-set, get_or-set_same, get_or-set_other, take-set-le, drop-set-lt, drop-set-add, set-set, set-get_or, set_past, append-nil, length-take-le, take_more, length-replicate, length-drop, take_min, take-append-le, drop-append-le, map-append}
 use Rattle.std.proofs.Math.Seq.{take-length, set-append_seam, take-set-lt}
 use Rattle.std.proofs.Math.ListN.{get_or-append}
+use Rattle.std.proofs.lemmas.Option.{same_Some}
+use Rattle.std.proofs.lemmas.Bool.{cases_lt}
 use Rattle.fut_base.specs.declared.record.Value.{Value}
 use Rattle.task_machine.specs.Variables.{Slot, One, Many, refilled}
 use Rattle.task_frame.specs.declared.frame.Shape.{Shape}
@@ -28,14 +30,11 @@ any_default [] i d e h = absurd (omega arith)
 any_default (v ∷ vs) zero d e h = refl
 any_default (v ∷ vs) (suc i) d e h = any_default vs i d e (omega arith)
 
-some_same : {X : Type 0} (x y : X) → Some x ≡ Some y → x ≡ y
-some_same x y h = cc
-
 pub lies_in : (ps : List Place) (n end i : ℕ) (p : Place) → AreLaid n ps end → slice_get ps i ≡ Some p → LiesIn n end p
 lies_in [] n end i p h g = absurd (cc)
 lies_in (q ∷ ps) n end zero p h g =
     let rest = laid_end ps (n + q.room) end h.3 in
-    subst (LiesIn n end) (some_same q p g) (record { from = omega (arith, h.0); to = omega (arith, h.0, rest); room = h.1; fits = h.2 })
+    subst (LiesIn n end) (same_Some q p g) (record { from = omega (arith, h.0); to = omega (arith, h.0, rest); room = h.1; fits = h.2 })
 lies_in (q ∷ ps) n end (suc i) p h g =
     let rest = lies_in ps (n + q.room) end i p h.3 g in
     record { from = omega (arith, rest.from); to = rest.to; room = rest.room; fits = rest.fits }
@@ -71,8 +70,8 @@ set_behind values (p ∷ ps) n end at v h below =
 pub set_in : (values : List Value) (ps : List Place) (n end i : ℕ) (p : Place) (k : ℕ) (v : Value) → AreLaid n ps end → slice_get ps i ≡ Some p → k < p.room → slots_of (slice_set values (p.first + k) v) ps ≡ slice_set (slots_of values ps) i (slot_of (slice_set values (p.first + k) v) p)
 set_in values [] n end i p k v h g below = absurd (cc)
 set_in values (q ∷ ps) n end zero p k v h g below =
-    subst (λ (r : Place). slots_of (slice_set values (r.first + k) v) (q ∷ ps) ≡ slice_set (slots_of values (q ∷ ps)) zero (slot_of (slice_set values (r.first + k) v) r)) (some_same q p g)
-    (ap (λ ss. slot_of (slice_set values (q.first + k) v) q ∷ ss) (set_behind values ps (n + q.room) end (q.first + k) v h.3 (omega (arith, h.0, ap (λ (r : Place). r.room) (some_same q p g)))))
+    subst (λ (r : Place). slots_of (slice_set values (r.first + k) v) (q ∷ ps) ≡ slice_set (slots_of values (q ∷ ps)) zero (slot_of (slice_set values (r.first + k) v) r)) (same_Some q p g)
+    (ap (λ ss. slot_of (slice_set values (q.first + k) v) q ∷ ss) (set_behind values ps (n + q.room) end (q.first + k) v h.3 (omega (arith, h.0, ap (λ (r : Place). r.room) (same_Some q p g)))))
 set_in values (q ∷ ps) n end (suc i) p k v h g below =
     let inside = lies_in ps (n + q.room) end i p h.3 g in
     let head = shaped_before values q.first (p.first + k) q.shape v (omega (arith, h.0, h.2, inside.from)) in
@@ -84,14 +83,14 @@ set_in values (q ∷ ps) n end (suc i) p k v h g below =
 pub laid_reshaped : (ps : List Place) (n end i : ℕ) (p q : Place) → AreLaid n ps end → slice_get ps i ≡ Some p → q.first ≡ p.first → q.room ≡ p.room → shape_size q.shape ≤ q.room → AreLaid n (slice_set ps i q) end
 laid_reshaped [] n end i p q h g first room fits = absurd (cc)
 laid_reshaped (r ∷ ps) n end zero p q h g first room fits =
-    let same = some_same r p g in
+    let same = same_Some r p g in
     let room' : q.room ≡ r.room = room ∙ sym (ap (λ (x : Place). x.room) same) in
     (first ∙ sym (ap (λ (x : Place). x.first) same) ∙ h.0, omega (arith, h.1, room'), fits, subst (λ m. AreLaid (n + m) ps end) (sym room') h.3)
 laid_reshaped (r ∷ ps) n end (suc i) p q h g first room fits = (h.0, h.1, h.2, laid_reshaped ps (n + r.room) end i p q h.3 g first room fits)
 
 pub rooms_reshaped : (ps : List Place) (i : ℕ) (p q : Place) → slice_get ps i ≡ Some p → q.room ≡ p.room → rooms_of (slice_set ps i q) ≡ rooms_of ps
 rooms_reshaped [] i p q g room = refl
-rooms_reshaped (r ∷ ps) zero p q g room = ap (λ m. m ∷ rooms_of ps) (room ∙ sym (ap (λ (x : Place). x.room) (some_same r p g)))
+rooms_reshaped (r ∷ ps) zero p q g room = ap (λ m. m ∷ rooms_of ps) (room ∙ sym (ap (λ (x : Place). x.room) (same_Some r p g)))
 rooms_reshaped (r ∷ ps) (suc i) p q g room = ap (λ ms. r.room ∷ ms) (rooms_reshaped ps i p q g room)
 
 pub slots_reshaped : (values : List Value) (ps : List Place) (i : ℕ) (q : Place) → slots_of values (slice_set ps i q) ≡ slice_set (slots_of values ps) i (slot_of values q)
@@ -120,7 +119,7 @@ element_is_set values ps i p n k v h g many below =
 -- what a place of the list says of the slots
 pub slot_there : (values : List Value) (ps : List Place) (i : ℕ) (p : Place) → slice_get ps i ≡ Some p → get_or (slots_of values ps) i zero_slot ≡ slot_of values p
 slot_there values [] i p g = absurd (cc)
-slot_there values (q ∷ ps) zero p g = ap (slot_of values) (some_same q p g)
+slot_there values (q ∷ ps) zero p g = ap (slot_of values) (same_Some q p g)
 slot_there values (q ∷ ps) (suc i) p g = slot_there values ps i p g
 
 pub slot_past : (values : List Value) (ps : List Place) (i : ℕ) → slice_get ps i ≡ None → get_or (slots_of values ps) i zero_slot ≡ zero_slot
@@ -173,7 +172,7 @@ many_is_kept values ps i p n k v g many past =
 
 pub room_there : (ps : List Place) (i : ℕ) (p : Place) → slice_get ps i ≡ Some p → slice_index (rooms_of ps) i ≡ p.room
 room_there [] i p g = absurd (cc)
-room_there (q ∷ ps) zero p g = ap (λ (x : Place). x.room) (some_same q p g)
+room_there (q ∷ ps) zero p g = ap (λ (x : Place). x.room) (same_Some q p g)
 room_there (q ∷ ps) (suc i) p g = room_there ps i p g
 
 pub room_past : (ps : List Place) (i : ℕ) → slice_get ps i ≡ None → slice_index (rooms_of ps) i ≡ 0
@@ -205,16 +204,10 @@ none_opened values ps i n g = ([], omega (arith, room_past ps i g), set_nothing 
 
 -- ---- elements are set one after the other
 
-pub below_or : (i n : ℕ) → (i < n) ⊎ (n ≤ i)
-below_or zero zero = inr (omega arith)
-below_or zero (suc n) = inl (omega arith)
-below_or (suc i) zero = inr (omega arith)
-below_or (suc i) (suc n) = elim (below_or i n) [ inl h ↦ inl (omega arith) | inr h ↦ inr (omega arith) ]
-
 -- the next element is set
 pub next_is_set : (old now : List Slot) (i k : ℕ) (done left : List Value) (x v : Value) → now ≡ slice_set old i (Many (done ++ x ∷ left)) → length done ≡ k → slice_set now i (with_element (get_or now i zero_slot) k v) ≡ slice_set old i (Many (done ++ v ∷ left))
 next_is_set old now i k done left x v is long =
-    elim (below_or i (length old)) [
+    elim (cases_lt i (length old)) [
       | inl below ↦ (
           let there : get_or now i zero_slot ≡ Many (done ++ x ∷ left) = ap (λ ss. get_or ss i zero_slot) is ∙ get_or-set_same old i (Many (done ++ x ∷ left)) zero_slot below in
           let seam : slice_set (done ++ x ∷ left) k v ≡ done ++ v ∷ left = ap (λ n. slice_set (done ++ x ∷ left) n v) (sym long) ∙ set-append_seam done x left v in
@@ -288,7 +281,7 @@ same_shape slots i n h =
 
 pub filled_after : (old : List Slot) (i n : ℕ) (vs : List Value) (v : Value) → length vs ≡ n → slice_set (slice_set old i (Many vs)) i (refilled (get_or (slice_set old i (Many vs)) i zero_slot) v) ≡ slice_set old i (Many (replicate n v))
 filled_after old i n vs v long =
-    elim (below_or i (length old)) [
+    elim (cases_lt i (length old)) [
       | inl below ↦ (
           let there : get_or (slice_set old i (Many vs)) i zero_slot ≡ Many vs = get_or-set_same old i (Many vs) zero_slot below in
           set-set old i _ _ ∙ ap (λ s. slice_set old i (refilled s v)) there ∙ ap (λ m. slice_set old i (Many (replicate m v))) long)
@@ -337,13 +330,13 @@ rooms_more ps first room k names n is below read big =
 many_not_one : (a : ℕ) → shape.Many a ≡ shape.One → ⊥
 many_not_one a h = cc
 
-shape_count : (a b : ℕ) → shape.Many a ≡ shape.Many b → a ≡ b
+pub shape_count : (a b : ℕ) → shape.Many a ≡ shape.Many b → a ≡ b
 shape_count a b h = cc
 
 pub taken_in : (old opened : List Slot) (i count room : ℕ) (values vs : List Value) → length vs ≡ min (length values) room → opened ≡ slice_set old i (Many vs) → shape_of (get_or opened i zero_slot) ≡ shape.Many count
     → slice_set opened i (Many (take count values)) ≡ slice_set old i (Many (take room values))
 taken_in old opened i count room values vs long is shape =
-    elim (below_or i (length old)) [
+    elim (cases_lt i (length old)) [
       | inl below ↦ (
           let there : get_or opened i zero_slot ≡ Many vs = ap (λ ss. get_or ss i zero_slot) is ∙ get_or-set_same old i (Many vs) zero_slot below in
           let same : length vs ≡ count = shape_count (length vs) count (sym (ap shape_of there) ∙ shape) in
@@ -354,7 +347,7 @@ taken_in old opened i count room values vs long is shape =
 
 pub not_taken : (old opened : List Slot) (i room : ℕ) (values vs : List Value) → opened ≡ slice_set old i (Many vs) → shape_of (get_or opened i zero_slot) ≡ shape.One → opened ≡ slice_set old i (Many (take room values))
 not_taken old opened i room values vs is shape =
-    elim (below_or i (length old)) [
+    elim (cases_lt i (length old)) [
       | inl below ↦ (
           let there : get_or opened i zero_slot ≡ Many vs = ap (λ ss. get_or ss i zero_slot) is ∙ get_or-set_same old i (Many vs) zero_slot below in
           absurd (many_not_one (length vs) (sym (ap shape_of there) ∙ shape)))

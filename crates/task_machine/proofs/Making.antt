@@ -2,13 +2,14 @@
 use Rattle.std.proofs.Common.{◌≡◌, ℕ, zero, suc, ◌+◌, ◌<◌, ◌≤◌, List, [], ◌∷◌, ◌++◌, length, inl, inr, refl, sym, ap, subst, arith, length-append}
 use Rattle.std.specs.Prelude.{Some, slice_get, slice_set}
 use Rattle.std.proofs.Math.ListN.{length-set}
+use Rattle.std.proofs.lemmas.Option.{same_Some}
 use Rattle.fut_base.specs.declared.record.Value.{Value}
 use Rattle.fut_base.specs.declared.event.Event.{Event}
 use Rattle.fut_base.specs.declared.event.Action.{Action}
 use Rattle.fut_base.specs.declared.event.Action.TheVariants.{Reads, Writes, Spawns, Creates, Syncs, Gets, Ends}
 use Rattle.fut_base.specs.Dag.{Among}
 use Rattle.fut_base.specs.Sound.{strands_by, tasks_by}
-use Rattle.fut_base.proofs.Rising.{among_split}
+use Rattle.fut_base.proofs.Members.{among_split}
 use Rattle.fut_syntax.specs.Trees as tree
 use Rattle.task_machine.specs.Texts.{main_of}
 use Rattle.task_machine.specs.State.{TaskState}
@@ -29,11 +30,8 @@ AllNumbered m = (t : ℕ) (r : Running) → slice_get m.tasks t ≡ Some r → N
 more : (n k s z t : ℕ) (r : Running) → n ≤ k → s ≤ z → Numbered n s t r → Numbered k z t r
 more n k s z t r le le' x = record { strand = omega (arith, x.strand); later = λ c a. (let l = x.later c a in (l.0, omega (arith, l.1))) }
 
-some_same : {X : Type 0} (x y : X) → Some x ≡ Some y → x ≡ y
-some_same x y h = cc
-
 begun : (P : tree.Program) (t : ℕ) (r : Running) → slice_get (opening P).tasks t ≡ Some r → Numbered 1 1 t r
-begun P zero r h = subst (λ (q : Running). Numbered 1 1 zero q) (some_same (begins P (main_of P) [] 0 0) r h) (record { strand = omega arith; later = λ c a. absurd a })
+begun P zero r h = subst (λ (q : Running). Numbered 1 1 zero q) (same_Some (begins P (main_of P) [] 0 0) r h) (record { strand = omega arith; later = λ c a. absurd a })
 begun P (suc t) r h = cc
 
 -- an action that makes no strand and leaves the block
@@ -66,7 +64,7 @@ acted_numbered m r stop (Ends value) t may below x = same_place _ _ t r _ refl r
 
 new_numbered : (P : tree.Program) (n s t code kid future : ℕ) (args : List Value) (k : ℕ) (q : Running) → kid < s → slice_get (begins P code args kid future ∷ []) k ≡ Some q → Numbered n s t q
 new_numbered P n s t code kid future args zero q below h =
-    subst (λ (x : Running). Numbered n s t x) (some_same (begins P code args kid future) q h) (record { strand = below; later = λ c a. absurd a })
+    subst (λ (x : Running). Numbered n s t x) (same_Some (begins P code args kid future) q h) (record { strand = below; later = λ c a. absurd a })
 new_numbered P n s t code kid future args (suc k) q below h = cc
 
 none_numbered : (n s t k : ℕ) (q : Running) → slice_get [] k ≡ Some q → Numbered n s t q

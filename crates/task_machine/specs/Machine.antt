@@ -1,5 +1,6 @@
 -- The machine that makes the entries of a run one after the other.
 use Rattle.std.specs.Prelude.{◌≡◌, ℕ, ◌+◌, Bool, true, false, List, [], ◌∷◌, ◌++◌, length, replicate, slice_get, slice_set, count_by, ℤ, pos, Option, Some, None, IsSome, option_and_then}
+use Rattle.fut_base.specs.declared.limits.TheConstants.{MOST_CREATES}
 use Rattle.fut_base.specs.declared.record.Value.{Value}
 use Rattle.fut_base.specs.declared.record.Finish.{Finish}
 use Rattle.fut_base.specs.declared.record.Finish.TheVariants as finish
@@ -158,4 +159,4 @@ abbrev pub FinishHolds : tree.Program → List Event → Finish → Type 0
 FinishHolds P h finish.Whole = IsWhole P h
 FinishHolds P h (finish.Events b) = (length h ≡ b) × (IsWhole P h → ⊥)
 FinishHolds P h (finish.Local t) = (m : Machine) × (r : Running) × Leads P (opening P) h m × IsRunning m t r × IsOutOfSteps r.state
-FinishHolds P h (finish.Futures t) = (m : Machine) × (r : Running) × Leads P (opening P) h m × IsRunning m t r × (create_count h ≡ 4096) × WishesCreate P r
+FinishHolds P h (finish.Futures t) = (m : Machine) × (r : Running) × Leads P (opening P) h m × IsRunning m t r × (create_count h ≡ MOST_CREATES) × WishesCreate P r

@@ -1,5 +1,6 @@
 -- The way of one task: local steps up to an event, its entry, and on.
 use Rattle.std.specs.Prelude.{◌≡◌, ℕ, zero, suc, ◌<◌, List, [], ◌∷◌, Some, None}
+use Rattle.fut_base.specs.declared.limits.TheConstants.{MOST_LOCAL_STEPS}
 use Rattle.fut_base.specs.declared.record.Value.{Value}
 use Rattle.fut_base.specs.declared.event.Event.{Event}
 use Rattle.fut_syntax.specs.Trees as tree
@@ -20,7 +21,7 @@ GoesOn limit s = (t : TaskState) × Steps limit s t
 
 -- the greatest number of local steps in a row, from which on a task has no further event
 abbrev pub IsMost : ℕ → Type 0
-IsMost limit = limit ≡ 1000000
+IsMost limit = limit ≡ MOST_LOCAL_STEPS
 
 -- local steps lead from the state after an entry to the event at which the task stands
 abbrev pub StandsAt : TaskState → TaskState → Type 0

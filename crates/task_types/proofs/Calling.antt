@@ -1,7 +1,11 @@
 -- Calls of a well-typed program: the called task is there, and the arguments fit.
-use Rattle.std.proofs.Common.{◌≡◌, ◌≢◌, ℕ, zero, suc, ◌+◌, ◌<◌, Bool, true, false, cond, List, [], ◌∷◌, ◌++◌, append-nil, length, take, drop, ◌⊎◌, inl, inr, refl, sym, ap, ◌∙◌, subst, arith, eqb-true}
+use Rattle.std.proofs.Common.{◌≡◌, ◌≢◌, ℕ, zero, suc, ◌+◌, ◌<◌, Bool, true, false, cond, List, [], ◌∷◌, ◌++◌, append-nil, length, take, drop, ◌⊎◌, inl, inr, refl, sym, ap, ◌∙◌, subst, arith, eqb-true, eq-eqb}
 use Rattle.std.specs.Prelude.{Some, None, Option, ℤ, pos, slice_get, slice_index_or, bytes_eq, nat_eq}
 use Rattle.std.proofs.Math.Seq.{take-append_seam, drop-append_seam}
+use Rattle.std.proofs.lemmas.Option.{same_Some}
+use Rattle.std.proofs.lemmas.Bool.{cond-true, cond-false, both_ways}
+use Rattle.fut_base.proofs.Members.{among_left}
+use Rattle.fut_base.proofs.Cases.{by_bool}
 use Rattle.fut_base.specs.declared.record.Value.{Value}
 use Rattle.fut_base.specs.declared.record.Value.TheVariants.{Int}
 use Rattle.fut_base.specs.Dag.{Among}
@@ -22,7 +26,7 @@ use Rattle.task_machine.specs.Variables.{Slot, One, Many, Variables, slot_at, va
 use Rattle.task_machine.specs.Texts.{TaskText, arrays_from, tasks_from, task_number, number_from, find_cell, stmts_of}
 use Rattle.task_machine.specs.State.{TaskState, start_state, started}
 use Rattle.task_types.specs.Typed.{Text, texts_from, text_at, variables_of, HasKind, ParamsFit, ArgsFit, one_of, slot_of, AllAmong, IsTypedState}
-use Rattle.task_types.proofs.Slots.{by_bool, not_both, some_one, no_some, nil_left, nil_right, among_left, unbroken, same_word, word_is, cond_true, cond_false}
+use Rattle.task_types.proofs.Slots.{no_some, nil_left, nil_right, unbroken, same_word, word_is}
 use Rattle.task_types.proofs.Given.{Holds, argument_has, expr_meets}
 use Rattle.task_types.proofs.Texts.{good_text}
 use Rattle.task_types.proofs.Stepping.{made}
@@ -58,10 +62,10 @@ task_found (tree.CellsOf name m ∷ rest) n w s h =
 task_found (tree.TaskOf name ps d b ∷ rest) n w s h =
     by_bool (λ c. bytes_eq name w ≡ c → means_task (cond c (Some (tree.TaskOf name ps d b)) (declaration rest w)) ≡ Some s → TaskFound (tree.TaskOf name ps d b ∷ rest) n w s) (bytes_eq name w)
     (λ t. λ i e. (
-    let same : record { params = ps; result = d } ≡ s = some_one _ s e in
+    let same : record { params = ps; result = d } ≡ s = same_Some _ s e in
     record {
       place = 0;
-      number = cond_true (bytes_eq name w) (Some n) (number_from (n + 1) (tasks_from rest) w) i ∙ ap Some (let q : n ≡ n + 0 = omega arith in q);
+      number = cond-true (bytes_eq name w) (Some n) (number_from (n + 1) (tasks_from rest) w) i ∙ ap Some (let q : n ≡ n + 0 = omega arith in q);
       text = record { params = ps; depth = d; body = b };
       is = refl;
       params = ap (λ (x : Signature). x.params) same;
@@ -71,7 +75,7 @@ task_found (tree.TaskOf name ps d b ∷ rest) n w s h =
     let r = task_found rest (n + 1) w s e in
     record {
       place = suc r.place;
-      number = cond_false (bytes_eq name w) (Some n) (number_from (n + 1) (tasks_from rest) w) i ∙ r.number ∙ ap Some (let q : n + 1 + r.place ≡ n + suc r.place = omega arith in q);
+      number = cond-false (bytes_eq name w) (Some n) (number_from (n + 1) (tasks_from rest) w) i ∙ r.number ∙ ap Some (let q : n + 1 + r.place ≡ n + suc r.place = omega arith in q);
       text = r.text;
       is = r.is;
       params = r.params;
@@ -127,7 +131,7 @@ call_known (Some s) count n h =
     refl h
 
 tested : (s : Signature) (count : ℕ) → length s.params ≡ count → tested_params (Some s) count ≡ s.params
-tested s count e = cond_true (nat_eq (length s.params) count) s.params [] (Rattle.std.proofs.Common.eq-eqb (length s.params) count e)
+tested s count e = cond-true (nat_eq (length s.params) count) s.params [] (eq-eqb (length s.params) count e)
 
 pub called : (gives : ℕ → ℕ → Bool) (P : tree.Program) (vis : List Variable) (vars : Variables) (n : ℕ) (w : List ℕ) (es : List tree.Expr) → Holds gives vis vars → call_faults (items_of P) vis n w es ≡ [] → IsCalled gives P vars w es
 called gives P vis vars n w es h f =
@@ -180,7 +184,7 @@ bound_holds gives all (p ∷ ps) args one a (own, rest, split, has, count, more)
     let same : param_variable p ≡ x = one (param_variable p) x (a (param_variable p) (inl refl)) (a x i) (word_is p.name x.name t) in
     subst (λ (q : Variable). HasKind gives q.kind (taken p.type args)) same own_has))
     (λ f. λ e. elim i [
-      | inl same ↦ absurd (not_both (bytes_eq p.name x.name) (same_word p.name x.name (ap (λ (q : Variable). q.name) same)) f)
+      | inl same ↦ absurd (both_ways (bytes_eq p.name x.name) f (same_word p.name x.name (ap (λ (q : Variable). q.name) same)))
       | inr j ↦ subst (λ vs. HasKind gives x.kind (slot_at vs x.name)) (sym left) (bound_holds gives all ps rest one (λ y k. a y (inr k)) more x j)
     ]) refl
 
@@ -188,7 +192,7 @@ pub bound_globals : (globals : List tree.Item) (ps : List tree.Param) (args : Li
 bound_globals globals [] args w l d = refl
 bound_globals globals (p ∷ ps) args w l d =
     by_bool (λ b. bytes_eq p.name w ≡ b → cond b (taken p.type args) (slot_at (bound ps (drop (size_of p.type) args)) w) ≡ One (Int (pos 0))) (bytes_eq p.name w)
-    (λ t. λ e. absurd (not_both (declares globals w) d (subst (λ n. declares globals n ≡ false) (word_is p.name w t) (l (param_variable p) (inl refl)))))
+    (λ t. λ e. absurd (both_ways (declares globals w) (subst (λ n. declares globals n ≡ false) (word_is p.name w t) (l (param_variable p) (inl refl))) d))
     (λ f. λ e. bound_globals globals ps (drop (size_of p.type) args) w (λ x i. l x (inr i)) d)
     refl
 
@@ -197,7 +201,7 @@ pub text_task : (items : List tree.Item) (which : ℕ) (t : Text) → slice_get 
 text_task [] which t h = absurd (no_some t _ h refl)
 text_task (tree.CellsOf name m ∷ rest) which t h = text_task rest which t h
 text_task (tree.TaskOf name ps d b ∷ rest) zero t h =
-    let same = some_one _ t h in
+    let same = same_Some _ t h in
     (record { name = name; params = ps; body = b }, refl, ap (λ (x : Text). x.params) same, ap (λ (x : Text). x.body) same)
 text_task (tree.TaskOf name ps d b ∷ rest) (suc which) t h = text_task rest which t h
 

@@ -2,6 +2,7 @@
 use Rattle.std.proofs.Common.{◌≡◌, ℕ, zero, suc, ◌+◌, Bool, cond, List, [], ◌∷◌, inl, inr, refl, sym, subst, eqb-true}
 use Rattle.std.specs.Prelude.{Some, None, Option, bytes_eq, nat_eq}
 use Rattle.std.proofs.lemmas.List.{length-replicate}
+use Rattle.fut_base.proofs.Cases.{by_bool}
 use Rattle.fut_base.specs.declared.record.Value.{Value}
 use Rattle.fut_base.specs.Dag.{Among}
 use Rattle.fut_syntax.specs.Trees as tree
@@ -16,7 +17,7 @@ use Rattle.fut_rules.specs.Names.{kind_named}
 use Rattle.fut_rules.specs.Exprs.{expr_kind, operand_kind, primary_kind, unknown, expr_faults, operand_faults, primary_faults, needed_faults}
 use Rattle.task_machine.specs.Variables.{Slot, One, Many, Variables, slot_at, value_of, filled, slot_in, operand_in, primary_in}
 use Rattle.task_types.specs.Typed.{Fits, HasKind}
-use Rattle.task_types.proofs.Slots.{by_bool, no_some, nil_left, nil_right, unbroken, word_is, all_replicate}
+use Rattle.task_types.proofs.Slots.{no_some, nil_left, nil_right, unbroken, word_is, all_replicate}
 
 -- these variables hold what their types say
 abbrev pub Holds : (ℕ → ℕ → Bool) → List Variable → Variables → Type 0

@@ -1,6 +1,8 @@
 -- `main` of a well-typed program has no parameters.
 use Rattle.std.proofs.Common.{◌≡◌, ℕ, suc, ◌+◌, Bool, true, false, not, ◌&&◌, ◌||◌, List, [], ◌∷◌, ◌++◌, refl, sym, ap, ◌∙◌, subst, arith}
 use Rattle.std.specs.Prelude.{Some, bytes_eq, codes, nat_eq, slice_get, unwrap_or}
+use Rattle.std.proofs.lemmas.Bool.{cond-true, cond-false}
+use Rattle.fut_base.proofs.Cases.{by_bool}
 use Rattle.fut_syntax.specs.Trees as tree
 use Rattle.fut_rules.specs.declared.fault.Rule.TheVariants as rule
 use Rattle.fut_rules.specs.Faults.{fault_if}
@@ -10,7 +12,7 @@ use Rattle.fut_check.specs.Items.{items_of, has_params, params_faults, head_faul
 use Rattle.fut_check.specs.Stmts.{depth_faults}
 use Rattle.task_machine.specs.Texts.{tasks_from, number_from, main_of}
 use Rattle.task_types.specs.Typed.{Text, texts_from, text_at, ParamsFit, ArgsFit}
-use Rattle.task_types.proofs.Slots.{by_bool, nil_left, nil_right, not_found, cond_true, cond_false}
+use Rattle.task_types.proofs.Slots.{nil_left, nil_right, not_found}
 
 no_params : (ps : List tree.Param) → has_params ps ≡ false → ps ≡ []
 no_params [] h = refl
@@ -44,7 +46,7 @@ main_found globals before (tree.TaskOf w ps d b ∷ rest) n k f h =
     let own = nil_left (item_faults globals before k (tree.TaskOf w ps d b)) (items_faults globals (before ++ tree.TaskOf w ps d b ∷ []) (k + item_width (tree.TaskOf w ps d b)) rest) f in
     record {
       place = 0;
-      number = cond_true (bytes_eq w (codes "main")) (Some n) (number_from (n + 1) (tasks_from rest) (codes "main")) i ∙ ap Some (let q : n ≡ n + 0 = omega arith in q);
+      number = cond-true (bytes_eq w (codes "main")) (Some n) (number_from (n + 1) (tasks_from rest) (codes "main")) i ∙ ap Some (let q : n ≡ n + 0 = omega arith in q);
       text = record { params = ps; depth = d; body = b };
       is = refl;
       bare = main_bare globals before k w ps d b i own;
@@ -53,7 +55,7 @@ main_found globals before (tree.TaskOf w ps d b ∷ rest) n k f h =
     let r = main_found globals (before ++ tree.TaskOf w ps d b ∷ []) rest (n + 1) (k + item_width (tree.TaskOf w ps d b)) (nil_right (item_faults globals before k (tree.TaskOf w ps d b)) (items_faults globals (before ++ tree.TaskOf w ps d b ∷ []) (k + item_width (tree.TaskOf w ps d b)) rest) f) e in
     record {
       place = suc r.place;
-      number = cond_false (bytes_eq w (codes "main")) (Some n) (number_from (n + 1) (tasks_from rest) (codes "main")) i ∙ r.number ∙ ap Some (let q : n + 1 + r.place ≡ n + suc r.place = omega arith in q);
+      number = cond-false (bytes_eq w (codes "main")) (Some n) (number_from (n + 1) (tasks_from rest) (codes "main")) i ∙ r.number ∙ ap Some (let q : n + 1 + r.place ≡ n + suc r.place = omega arith in q);
       text = r.text;
       is = r.is;
       bare = r.bare;

@@ -1,6 +1,9 @@
 -- In every run of a well-typed program each task keeps the type rules.
-use Rattle.std.proofs.Common.{◌≡◌, ℕ, zero, suc, ◌+◌, Bool, true, false, List, [], ◌∷◌, ◌++◌, length, ◌⊎◌, inl, inr, refl, sym, ap, ◌∙◌, subst, eqb-true}
+use Rattle.std.proofs.Common.{◌≡◌, ℕ, zero, suc, ◌+◌, Bool, true, false, List, [], ◌∷◌, ◌++◌, length, ◌⊎◌, inl, inr, refl, sym, ap, ◌∙◌, subst, eqb-true, eq-eqb}
 use Rattle.std.specs.Prelude.{Some, None, Option, nat_eq, slice_get, option_and_then}
+use Rattle.std.proofs.lemmas.Option.{same_Some}
+use Rattle.std.proofs.lemmas.Bool.{both_ways}
+use Rattle.fut_base.proofs.Cases.{by_bool}
 use Rattle.fut_base.specs.declared.record.Value.{Value}
 use Rattle.fut_base.specs.declared.event.Event.{Event}
 use Rattle.fut_base.specs.declared.event.Action.{Action}
@@ -17,7 +20,7 @@ use Rattle.task_machine.proofs.Places.{get_set_append}
 use Rattle.task_machine.proofs.Making.{acting_task, others_stay, child_comes}
 use Rattle.task_types.specs.Typed.{Text, text_at, Fits, ArgsFit, ActionFits, IsTypedState, any_future}
 use Rattle.task_types.specs.Running.{has_depth, runs_depth, gives_of, IsTypedTask, Grows, Passes}
-use Rattle.task_types.proofs.Slots.{some_one, no_some}
+use Rattle.task_types.proofs.Slots.{no_some}
 use Rattle.task_types.proofs.Growing.{fits_on, args_on, typed_on, action_on}
 use Rattle.task_types.proofs.Mains.{main_fits}
 use Rattle.task_types.proofs.Stepping.{steps_stay}
@@ -52,17 +55,17 @@ gives_is P m f d h =
     record { task = r.0; present = r.1; text = t.0; is = t.1; depth = t.2 }
 
 is_gives : (P : tree.Program) (m : Machine) (f : ℕ) (r : Running) (t : Text) → slice_get m.tasks f ≡ Some r → text_at P r.which ≡ Some t → gives_of P m f t.depth ≡ true
-is_gives P m f r t h e = ap (runs_depth P t.depth) h ∙ ap (has_depth t.depth) e ∙ Rattle.std.proofs.Common.eq-eqb t.depth t.depth refl
+is_gives P m f r t h e = ap (runs_depth P t.depth) h ∙ ap (has_depth t.depth) e ∙ eq-eqb t.depth t.depth refl
 
 -- a task runs the same text after a step
 which_stays : (P : tree.Program) (m : Machine) (e : Event) (n : Machine) (x : IsStep P m e n) (f : ℕ) (r : Running) → slice_get m.tasks f ≡ Some r → (q : Running) × (slice_get n.tasks f ≡ Some q) × (q.which ≡ r.which)
 which_stays P m e n x f r h =
-    Rattle.task_types.proofs.Slots.by_bool (λ b. nat_eq f e.task ≡ b → (q : Running) × (slice_get n.tasks f ≡ Some q) × (q.which ≡ r.which)) (nat_eq f e.task)
+    by_bool (λ b. nat_eq f e.task ≡ b → (q : Running) × (slice_get n.tasks f ≡ Some q) × (q.which ≡ r.which)) (nat_eq f e.task)
     (λ t. λ i. (
     let same : f ≡ e.task = eqb-true f e.task i in
-    let task : x.task ≡ r = some_one x.task r (sym x.present ∙ subst (λ k. slice_get m.tasks k ≡ Some r) same h) in
+    let task : x.task ≡ r = same_Some x.task r (sym x.present ∙ subst (λ k. slice_get m.tasks k ≡ Some r) same h) in
     (acted x.task x.stop e.action, subst (λ k. slice_get n.tasks k ≡ Some (acted x.task x.stop e.action)) (sym same) (acting_task P m e n x), ap (λ (y : Running). y.which) task)))
-    (λ t. λ i. (r, others_stay P m e n f r x (λ same. Rattle.task_types.proofs.Slots.not_both (nat_eq f e.task) (Rattle.std.proofs.Common.eq-eqb f e.task same) i) h, refl))
+    (λ t. λ i. (r, others_stay P m e n f r x (λ same. both_ways (nat_eq f e.task) i (eq-eqb f e.task same)) h, refl))
     refl
 
 grows : (P : tree.Program) (m : Machine) (e : Event) (n : Machine) → IsStep P m e n → Grows (gives_of P m) (gives_of P n)
@@ -112,7 +115,7 @@ step_fits P m e n x (Gets future value strand) w all k is = λ d depth. (
     let may : Permits m x.task (Gets future value strand) = subst (Permits m x.task) is x.permits in
     let ended : g.task.value ≡ Some value = ap (λ o. option_and_then (λ (r : Running). r.value) o) (sym g.present) ∙ may.1 in
     let t = all future g.task g.present in
-    let same : t.text ≡ g.text = some_one t.text g.text (sym t.is ∙ g.is) in
+    let same : t.text ≡ g.text = same_Some t.text g.text (sym t.is ∙ g.is) in
     fits_on (gives_of P m) (gives_of P n) d value (grows P m e n x) (subst (λ y. Fits (gives_of P m) y value) (ap (λ (z : Text). z.depth) same ∙ g.depth) (t.ended value ended)))
 step_fits P m e n x (Ends value) w all k is = tt
 
@@ -138,7 +141,7 @@ acted_typed : (P : tree.Program) (m : Machine) (e : Event) (n : Machine) (x : Is
 acted_typed P m e n x w all =
     let k = acts P m e n x w all in
     let on = grows P m e n x in
-    Rattle.task_types.proofs.Slots.by_bool (λ b. ends e.action ≡ b → IsTypedTask P n (acted x.task x.stop e.action)) (ends e.action)
+    by_bool (λ b. ends e.action ≡ b → IsTypedTask P n (acted x.task x.stop e.action)) (ends e.action)
     (λ t. λ i. (
     let v = ends_with e.action i in
     let value : value_by e.action x.task.value ≡ Some v.0 = ap (λ a. value_by a x.task.value) v.1 in
@@ -148,7 +151,7 @@ acted_typed P m e n x w all =
       text = k.typed.text;
       is = k.typed.is;
       runs = λ none. absurd (no_some v.0 _ value none);
-      ended = λ u h. subst (Fits (gives_of P n) k.typed.text.depth) (some_one v.0 u (sym value ∙ h)) (fits_on (gives_of P m) (gives_of P n) k.typed.text.depth v.0 on fits);
+      ended = λ u h. subst (Fits (gives_of P n) k.typed.text.depth) (same_Some v.0 u (sym value ∙ h)) (fits_on (gives_of P m) (gives_of P n) k.typed.text.depth v.0 on fits);
     }))
     (λ t. λ i. record {
       text = k.typed.text;
@@ -177,7 +180,7 @@ begun_typed P m code kid future args w f =
     record { text = f.0; is = f.1; runs = λ none. start_typed (gives_of P m) P code args w f; ended = λ v h. absurd (no_some v _ h refl) }
 
 new_typed : (P : tree.Program) (m : Machine) (code kid future k : ℕ) (args : List Value) (r : Running) → IsWellTyped P → ArgsFit (gives_of P m) P code args → slice_get (begins P code args kid future ∷ []) k ≡ Some r → IsTypedTask P m r
-new_typed P m code kid future zero args r w f h = subst (IsTypedTask P m) (some_one _ r h) (begun_typed P m code kid future args w f)
+new_typed P m code kid future zero args r w f h = subst (IsTypedTask P m) (same_Some _ r h) (begun_typed P m code kid future args w f)
 new_typed P m code kid future (suc k) args r w f h = absurd (no_some r _ h refl)
 
 none_there : (k : ℕ) (r : Running) → slice_get [] k ≡ Some r → ⊥

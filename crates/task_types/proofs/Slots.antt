@@ -2,6 +2,9 @@
 use Rattle.std.proofs.Common.{◌≡◌, ℕ, zero, suc, ◌<◌, Bool, true, false, cond, List, [], ◌∷◌, ◌++◌, length, ◌⊎◌, inl, inr, refl, sym, ap, ◌∙◌, subst, arith}
 use Rattle.std.specs.Prelude.{Some, None, Option, pos, replicate, slice_index_or, bytes_eq, nat_eq}
 use Rattle.std.proofs.lemmas.Slice.Eq.{bytes_eq-Decides}
+use Rattle.std.proofs.lemmas.Bool.{cond-true, cond-false}
+use Rattle.fut_base.proofs.Members.{among_right}
+use Rattle.fut_base.proofs.Cases.{by_bool}
 use Rattle.fut_base.specs.declared.record.Value.{Value}
 use Rattle.fut_base.specs.declared.record.Value.TheVariants.{Int}
 use Rattle.fut_base.specs.Dag.{Among}
@@ -9,22 +12,6 @@ use Rattle.fut_rules.specs.declared.fault.Rule.{Rule}
 use Rattle.fut_rules.specs.Faults.{broken, fault_if}
 use Rattle.task_machine.specs.Variables.{Slot, One, Variables, slot_at, put}
 use Rattle.task_types.specs.Typed.{Fits, AllFit}
-
-pub by_bool : (M : Bool → Type 0) (b : Bool) → (b ≡ true → M true) → (b ≡ false → M false) → M b
-by_bool M true t f = t refl
-by_bool M false t f = f refl
-
-pub cond_true : {X : Type 0} (b : Bool) (x y : X) → b ≡ true → cond b x y ≡ x
-cond_true b x y h = ap (λ c. cond c x y) h
-
-pub cond_false : {X : Type 0} (b : Bool) (x y : X) → b ≡ false → cond b x y ≡ y
-cond_false b x y h = ap (λ c. cond c x y) h
-
-pub not_both : (b : Bool) → b ≡ true → b ≡ false → ⊥
-not_both b t f = let e : true ≡ false = sym t ∙ f in cc
-
-pub some_one : {X : Type 0} (x y : X) → Some x ≡ Some y → x ≡ y
-some_one x y h = cc
 
 pub no_some : {X : Type 0} (x : X) (o : Option X) → o ≡ Some x → o ≡ None → ⊥
 no_some x o h g = let e : Some x ≡ None = sym h ∙ g in cc
@@ -42,23 +29,6 @@ nil_right (x ∷ xs) ys h = absurd (let e : x ∷ (xs ++ ys) ≡ [] = h in cc)
 -- three lists without items
 pub nil_three : {X : Type 0} (xs ys zs : List X) → xs ++ ys ++ zs ≡ [] → (xs ≡ []) × (ys ≡ []) × (zs ≡ [])
 nil_three xs ys zs h = (nil_left xs ys (nil_left (xs ++ ys) zs h), nil_right xs ys (nil_left (xs ++ ys) zs h), nil_right (xs ++ ys) zs h)
-
-pub among_split : {X : Type 0} (x : X) (xs ys : List X) → Among x (xs ++ ys) → Among x xs ⊎ Among x ys
-among_split x [] ys a = inr a
-among_split x (z ∷ zs) ys (inl e) = inl (inl e)
-among_split x (z ∷ zs) ys (inr a) = elim (among_split x zs ys a) [ inl l ↦ inl (inr l) | inr r ↦ inr r ]
-
-pub among_left : {X : Type 0} (x : X) (xs ys : List X) → Among x xs → Among x (xs ++ ys)
-among_left x [] ys a = absurd a
-among_left x (z ∷ zs) ys (inl e) = inl e
-among_left x (z ∷ zs) ys (inr a) = inr (among_left x zs ys a)
-
-pub among_right : {X : Type 0} (x : X) (xs ys : List X) → Among x ys → Among x (xs ++ ys)
-among_right x [] ys a = a
-among_right x (z ∷ zs) ys a = inr (among_right x zs ys a)
-
-pub among_last : {X : Type 0} (x : X) (xs : List X) → Among x (xs ++ x ∷ [])
-among_last x xs = among_right x xs (x ∷ []) (inl refl)
 
 -- ---- faults that are not there
 
@@ -81,19 +51,19 @@ word_is a b e = (bytes_eq-Decides a b).0 e
 -- ---- variables
 
 pub slot_put_same : (vs : Variables) (w : List ℕ) (s : Slot) → slot_at (put vs w s) w ≡ s
-slot_put_same [] w s = cond_true (bytes_eq w w) s (One (Int (pos 0))) (same_word w w refl)
+slot_put_same [] w s = cond-true (bytes_eq w w) s (One (Int (pos 0))) (same_word w w refl)
 slot_put_same (v ∷ vs) w s =
     by_bool (λ b. slot_at (cond b ((v.0, s) ∷ vs) (v ∷ put vs w s)) w ≡ s) (bytes_eq v.0 w)
-    (λ t. cond_true (bytes_eq v.0 w) s (slot_at vs w) t)
-    (λ f. cond_false (bytes_eq v.0 w) v.1 (slot_at (put vs w s) w) f ∙ slot_put_same vs w s)
+    (λ t. cond-true (bytes_eq v.0 w) s (slot_at vs w) t)
+    (λ f. cond-false (bytes_eq v.0 w) v.1 (slot_at (put vs w s) w) f ∙ slot_put_same vs w s)
 
 pub slot_put_other : (vs : Variables) (w : List ℕ) (s : Slot) (u : List ℕ) → bytes_eq w u ≡ false → slot_at (put vs w s) u ≡ slot_at vs u
-slot_put_other [] w s u h = cond_false (bytes_eq w u) s (One (Int (pos 0))) h
+slot_put_other [] w s u h = cond-false (bytes_eq w u) s (One (Int (pos 0))) h
 slot_put_other (v ∷ vs) w s u h =
     by_bool (λ b. slot_at (cond b ((v.0, s) ∷ vs) (v ∷ put vs w s)) u ≡ cond (bytes_eq v.0 u) v.1 (slot_at vs u)) (bytes_eq v.0 w)
     (λ t.
     let no : bytes_eq v.0 u ≡ false = subst (λ x. bytes_eq x u ≡ false) (sym (word_is v.0 w t)) h in
-    cond_false (bytes_eq v.0 u) s (slot_at vs u) no ∙ sym (cond_false (bytes_eq v.0 u) v.1 (slot_at vs u) no))
+    cond-false (bytes_eq v.0 u) s (slot_at vs u) no ∙ sym (cond-false (bytes_eq v.0 u) v.1 (slot_at vs u) no))
     (λ f. ap (λ x. cond (bytes_eq v.0 u) v.1 x) (slot_put_other vs w s u h))
 
 -- ---- values that fit

@@ -1,6 +1,9 @@
 -- Variables of a typed state, and what local steps make of it.
 use Rattle.std.proofs.Common.{◌≡◌, ◌≢◌, ℕ, zero, suc, ◌+◌, ◌-◌, ◌%◌, ◌<◌, Bool, true, false, cond, List, [], ◌∷◌, ◌++◌, append_assoc, append-nil, length, length-set, mod-lt, ◌⊎◌, inl, inr, refl, sym, ap, ◌∙◌, subst, arith}
 use Rattle.std.specs.Prelude.{Some, None, Option, bytes_eq, ℤ, pos, negsuc, slice_index_or}
+use Rattle.std.proofs.lemmas.Bool.{both_ways}
+use Rattle.fut_base.proofs.Members.{among_split, among_left, among_right}
+use Rattle.fut_base.proofs.Cases.{by_bool}
 use Rattle.fut_base.specs.declared.record.Value.{Value}
 use Rattle.fut_base.specs.declared.record.Value.TheVariants.{Int}
 use Rattle.fut_base.specs.Dag.{Among}
@@ -18,7 +21,7 @@ use Rattle.task_machine.specs.Values.{index_of}
 use Rattle.task_machine.specs.Variables.{Slot, One, Many, Variables, slot_at, put, value_of, filled, refilled}
 use Rattle.task_machine.specs.State.{TaskState}
 use Rattle.task_types.specs.Typed.{Text, variables_of, Fits, AllFit, HasKind, AllAmong, BreaksNoRule, AllBreakNone, EndsWithReturn, IsTypedState}
-use Rattle.task_types.proofs.Slots.{by_bool, not_both, no_some, nil_right, among_split, among_left, among_right, unbroken, word_is, slot_put_same, slot_put_other, all_at}
+use Rattle.task_types.proofs.Slots.{no_some, nil_right, unbroken, word_is, slot_put_same, slot_put_other, all_at}
 use Rattle.task_types.proofs.Given.{Holds, named_holds, IsGiven, inside, init_fits, filled_has, meets_of}
 use Rattle.task_types.proofs.Texts.{AreApart}
 
@@ -49,7 +52,7 @@ set_one gives globals t known vars x s a k i h =
       globals_are = λ w d. (
           let other : bytes_eq x.name w ≡ false =
           by_bool (λ b. bytes_eq x.name w ≡ b → b ≡ false) (bytes_eq x.name w)
-          (λ tr. λ e. absurd (not_both (declares globals w) d (subst (λ n. declares globals n ≡ false) (word_is x.name w tr) (a.local x i))))
+          (λ tr. λ e. absurd (both_ways (declares globals w) (subst (λ n. declares globals n ≡ false) (word_is x.name w tr) (a.local x i)) d))
           (λ f. λ e. refl) refl
           in
           slot_put_other vars x.name s w other ∙ k.globals_are w d);
@@ -80,7 +83,7 @@ pub none_shown : (globals : List tree.Item) (t : Text) (known : List Variable) (
 none_shown globals t known todo h = subst (λ k. AllBreakNone globals t k todo) (append-nil known) h
 
 pub returns_after : (s : tree.Stmt) (rest : List tree.Stmt) → is_return s ≡ false → EndsWithReturn (s ∷ rest) → EndsWithReturn rest
-returns_after s [] n h = absurd (not_both (is_return s) h n)
+returns_after s [] n h = absurd (both_ways (is_return s) n h)
 returns_after s (r ∷ rest) n h = h
 
 returns_before : (s : tree.Stmt) (rest : List tree.Stmt) → EndsWithReturn rest → EndsWithReturn (s ∷ rest)

@@ -1,6 +1,9 @@
 -- A local step keeps a state typed.
 use Rattle.std.proofs.Common.{◌≡◌, ◌≢◌, ℕ, zero, suc, ◌+◌, Bool, true, false, cond, List, [], ◌∷◌, ◌++◌, length, length-set, inl, inr, refl, sym, ap, ◌∙◌, subst}
 use Rattle.std.specs.Prelude.{Some, None, Option, pos, slice_set, slice_index_or}
+use Rattle.std.proofs.lemmas.Option.{same_Some}
+use Rattle.fut_base.proofs.Members.{among_left, among_right}
+use Rattle.fut_base.proofs.Cases.{by_bool}
 use Rattle.fut_base.specs.declared.record.Value.{Value}
 use Rattle.fut_base.specs.declared.record.Value.TheVariants.{Int}
 use Rattle.fut_base.specs.Dag.{Among}
@@ -23,7 +26,7 @@ use Rattle.task_machine.specs.Texts.{stmts_of, else_of}
 use Rattle.task_machine.specs.State.{TaskState, goes_on, set_by, element_of, local_value, init_step, store_step, step_by, first_step}
 use Rattle.task_machine.specs.Runs.{Steps}
 use Rattle.task_types.specs.Typed.{Text, text_at, variables_of, Fits, HasKind, AllAmong, BreaksNoRule, AllBreakNone, EndsWithReturn, IsTypedState}
-use Rattle.task_types.proofs.Slots.{by_bool, some_one, no_some, nil_left, nil_right, nil_three, among_left, among_right, not_found, all_set}
+use Rattle.task_types.proofs.Slots.{no_some, nil_left, nil_right, nil_three, not_found, all_set}
 use Rattle.task_types.proofs.Given.{Holds, named, named_holds, expr_given, init_fits, filled_has, plain_has, inside, expr_meets}
 use Rattle.task_types.proofs.Texts.{IsGoodKind, IsGoodText, good_text, if_parts, while_block, block_none}
 use Rattle.task_types.proofs.States.{Keeps, kept, set_one, fewer, all_append, none_shown, returns_after, returns_append, InitGives, defined_has, IsAssigned, assigned, assigned_has, IsArrayVariable, before_bracket, cells_are_one, ArraySlot, array_slot, element_fits}
@@ -62,7 +65,7 @@ pub local_gives : (gives : ℕ → ℕ → Bool) (P : tree.Program) (which : ℕ
 local_gives gives P which t known vars stmt rest n (tree.GetOf w) v f c l = absurd (no_some v _ l refl)
 local_gives gives P which t known vars stmt rest n (tree.CreateOf w es) v f c l = absurd (no_some v _ l refl)
 local_gives gives P which t known vars stmt rest n (tree.Value e) v f c l =
-    record { slot = slot_in vars e; is_given = expr_given gives f.own.scope.visible vars n e (seen gives P which t known vars stmt rest f) c; value = some_one _ v l }
+    record { slot = slot_in vars e; is_given = expr_given gives f.own.scope.visible vars n e (seen gives P which t known vars stmt rest f) c; value = same_Some _ v l }
 local_gives gives P which t known vars stmt rest n (tree.Index w e) v f c l =
     let vis = f.own.scope.visible in
     let rule_part = nil_left (broken (element_rule (kind_named vis w) (means_cells (declaration (items_of P) w))) n) (needed_faults vis (n + 2) for_int e) c in
@@ -70,7 +73,7 @@ local_gives gives P which t known vars stmt rest n (tree.Index w e) v f c l =
       | inl a ↦ (
           let s = array_here gives P which t known vars stmt rest w f a in
           let same : slice_index_or s.values (index_of (length s.values) (number_in vars e)) (Int (pos 0)) ≡ v =
-          some_one _ v (subst (λ x. element_of x (number_in vars e) ≡ Some v) s.is l)
+          same_Some _ v (subst (λ x. element_of x (number_in vars e) ≡ Some v) s.is l)
           in
           let fits : Fits gives a.depth v = subst (Fits gives a.depth) same (element_fits gives a.depth a.size s.values (number_in vars e) s.count (sized gives P which t known vars stmt rest w f a) s.fit) in
           record {
@@ -130,7 +133,7 @@ assign_set gives P which t known s rest w i v f g =
 -- how a step by an init comes about
 init_came : (s : TaskState) (rest : List tree.Stmt) (stmt : tree.Stmt) (o : Option Value) (u : TaskState) → init_step s rest stmt o ≡ Some u → (v : Value) × (o ≡ Some v) × (goes_on s rest (set_by stmt s.vars v) ≡ u)
 init_came s rest stmt None u h = absurd (no_some u _ h refl)
-init_came s rest stmt (Some v) u h = (v, refl, some_one _ u h)
+init_came s rest stmt (Some v) u h = (v, refl, same_Some _ u h)
 
 -- an element of an array variable is set
 store_set : (gives : ℕ → ℕ → Bool) (P : tree.Program) (which : ℕ) (t : Text) (known : List Variable) (s : TaskState) (rest : List tree.Stmt) (w : List ℕ) (e g : tree.Expr) (u : TaskState) → (f : Front gives P which t known s.vars (tree.Store w e g) rest) → store_step s rest w (slot_at s.vars w) (number_in s.vars e) (value_in s.vars g) ≡ Some u → IsTypedState gives P which u
@@ -148,7 +151,7 @@ store_set gives P which t known s rest w e g u f h =
           let fits : Fits gives a.depth v = init_fits gives (tree.Plain a.depth) m.kind (slot_in s.vars g) m.rule m.has in
           let z = number_in s.vars e in
           let after = Many (slice_set sl.values (index_of (length sl.values) z) v) in
-          let same : goes_on s rest (put s.vars w after) ≡ u = some_one _ u (subst (λ x. store_step s rest w x z v ≡ Some u) sl.is h) in
+          let same : goes_on s rest (put s.vars w after) ≡ u = same_Some _ u (subst (λ x. store_step s rest w x z v ≡ Some u) sl.is h) in
           subst (IsTypedState gives P which) same
           (made gives P which t known (goes_on s rest (put s.vars w after)) f.is
           (set_again gives P which t known s.vars (tree.Store w e g) rest w (kind.Array a.depth a.size) after f a.kind
@@ -194,7 +197,7 @@ stmt_step : (gives : ℕ → ℕ → Bool) (P : tree.Program) (which : ℕ) (t :
 stmt_step gives P which t known s rest (tree.Declare w type) u f h =
     let x = variable w type in
     let parts = nil_three (declared_faults (items_of P) f.own.scope.declared (f.own.at + 1) (variable w type)) (type_faults (f.own.at + 3) type) (fault_if (is_handle (kind_of type)) (f.own.at + 1) rule.NoValue) f.own.clean in
-    subst (IsTypedState gives P which) (some_one _ u h)
+    subst (IsTypedState gives P which) (same_Some _ u h)
     (made gives P which t (known ++ x ∷ []) (goes_on s rest (put s.vars w (filled type (Int (pos 0))))) f.is
     (set_one gives (items_of P) t known s.vars x (filled type (Int (pos 0))) f.good.apart f.keeps (f.own.declared x (inl refl))
     (filled_has gives type (Int (pos 0)) (zero_fits gives type (not_found (is_handle (kind_of type)) (f.own.at + 1) rule.NoValue parts.2))))
@@ -212,8 +215,8 @@ stmt_step gives P which t known s rest (tree.Assign w i) u f h =
 stmt_step gives P which t known s rest (tree.Store w e g) u f h = store_set gives P which t known s rest w e g u f h
 stmt_step gives P which t known s rest (tree.SpawnOf w es) u f h = absurd (no_some u _ h refl)
 stmt_step gives P which t known s rest tree.SyncAll u f h = absurd (no_some u _ h refl)
-stmt_step gives P which t known s rest (tree.If' e b o) u f h = subst (IsTypedState gives P which) (some_one _ u h) (if_step gives P which t known s rest e b o f)
-stmt_step gives P which t known s rest (tree.While' e b) u f h = subst (IsTypedState gives P which) (some_one _ u h) (while_step gives P which t known s rest e b f)
+stmt_step gives P which t known s rest (tree.If' e b o) u f h = subst (IsTypedState gives P which) (same_Some _ u h) (if_step gives P which t known s rest e b o f)
+stmt_step gives P which t known s rest (tree.While' e b) u f h = subst (IsTypedState gives P which) (same_Some _ u h) (while_step gives P which t known s rest e b f)
 stmt_step gives P which t known s rest (tree.Return' e) u f h = absurd (no_some u _ h refl)
 
 -- the first statement of a typed state

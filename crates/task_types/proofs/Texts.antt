@@ -1,7 +1,9 @@
 -- What a program without faults is: names that differ, good types, and bodies without faults.
-use Rattle.std.proofs.Common.{◌≡◌, ◌≢◌, ℕ, zero, suc, ◌+◌, ◌<◌, Bool, true, false, cond, not, ◌&&◌, ◌||◌, List, [], ◌∷◌, ◌++◌, append_assoc, length, ◌⊎◌, inl, inr, refl, sym, ap, ◌∙◌, subst, arith, eqb-true, ltb-false, ltb-true}
+use Rattle.std.proofs.Common.{◌≡◌, ◌≢◌, ℕ, zero, suc, ◌+◌, ◌<◌, Bool, true, false, cond, not, ◌&&◌, ◌||◌, List, [], ◌∷◌, ◌++◌, append_assoc, length, ◌⊎◌, inl, inr, refl, sym, ap, ◌∙◌, subst, arith, eqb-true, ltb-false, ltb-true, eq-eqb, append-nil, lt-ltb}
 use Rattle.std.specs.Prelude.{Some, bytes_eq, nat_eq, nat_lt, slice_get}
-use Rattle.std.proofs.lemmas.Bool.{not-false}
+use Rattle.std.proofs.lemmas.Bool.{not-false, or_parts, both_ways}
+use Rattle.std.proofs.lemmas.Option.{same_Some}
+use Rattle.fut_base.proofs.Members.{among_split, among_left, among_right}
 use Rattle.fut_base.specs.Dag.{Among}
 use Rattle.fut_syntax.specs.Trees as tree
 use Rattle.fut_rules.specs.declared.kind.Kind.{Kind}
@@ -18,7 +20,7 @@ use Rattle.fut_check.specs.Stmts.{type_faults, depth_faults, is_bad_length, is_d
 use Rattle.fut_check.specs.Items.{items_of, param_variable, param_variables, is_over, param_faults, params_faults, has_params, opening_scope, body_faults, head_faults, item_faults, items_faults, IsWellTyped}
 use Rattle.task_machine.specs.Texts.{stmts_of}
 use Rattle.task_types.specs.Typed.{Text, texts_from, text_at, variables_of, AllAmong, AllBreakNone, EndsWithReturn}
-use Rattle.task_types.proofs.Slots.{not_both, some_one, no_some, nil_left, nil_right, nil_three, among_split, among_left, among_right, not_found, same_word}
+use Rattle.task_types.proofs.Slots.{no_some, nil_left, nil_right, nil_three, not_found, same_word}
 
 -- an array has elements, and they are handles
 abbrev pub IsGoodKind : Kind → Type 0
@@ -32,15 +34,11 @@ pub record AreApart (globals : List tree.Item) (xs : List Variable) : Type 0 whe
   pub local : (x : Variable) → Among x xs → declares globals x.name ≡ false
   pub good : (x : Variable) → Among x xs → IsGoodKind x.kind
 
-or_false : (a b : Bool) → (a || b) ≡ false → (a ≡ false) × (b ≡ false)
-or_false true b h = absurd (let e : true ≡ false = h in cc)
-or_false false b h = (refl, h)
-
 not_named : (xs : List Variable) (w : List ℕ) (x : Variable) → is_named xs w ≡ false → Among x xs → x.name ≡ w → ⊥
 not_named [] w x h a e = absurd a
 not_named (y ∷ ys) w x h (inl same) e =
-    not_both (bytes_eq y.name w) (same_word y.name w (ap (λ (z : Variable). z.name) same ∙ e)) (or_false (bytes_eq y.name w) (is_named ys w) h).0
-not_named (y ∷ ys) w x h (inr a) e = not_named ys w x (or_false (bytes_eq y.name w) (is_named ys w) h).1 a e
+    both_ways (bytes_eq y.name w) (or_parts (bytes_eq y.name w) (is_named ys w) h).0 (same_word y.name w (ap (λ (z : Variable). z.name) same ∙ e))
+not_named (y ∷ ys) w x h (inr a) e = not_named ys w x (or_parts (bytes_eq y.name w) (is_named ys w) h).1 a e
 
 only_one : {X : Type 0} (x y : X) → Among x (y ∷ []) → y ≡ x
 only_one x y (inl e) = e
@@ -49,7 +47,7 @@ only_one x y (inr a) = absurd a
 pub one_more : (globals : List tree.Item) (xs : List Variable) (x : Variable) (n : ℕ) → AreApart globals xs → declared_faults globals xs n x ≡ [] → IsGoodKind x.kind → AreApart globals (xs ++ x ∷ [])
 one_more globals xs x n a f g =
     let doubled : is_doubled globals xs x.name ≡ false = not_found (is_doubled globals xs x.name) n rule.DoubledName (nil_left (fault_if (is_doubled globals xs x.name) n rule.DoubledName) (fault_if (nat_lt 80 (slots xs + size x.kind)) n rule.ConstantLimit) f) in
-    let parts = or_false (is_named xs x.name) (declares globals x.name) doubled in
+    let parts = or_parts (is_named xs x.name) (declares globals x.name) doubled in
     record {
       one = λ y z i j e. elim (among_split y xs (x ∷ []) i) [
         | inl l ↦ elim (among_split z xs (x ∷ []) j) [
@@ -72,7 +70,7 @@ pub none_apart : (globals : List tree.Item) → AreApart globals []
 none_apart globals = record { one = λ x y i j e. absurd i; local = λ x i. absurd i; good = λ x i. absurd i }
 
 ne_of_test : (a b : ℕ) → nat_eq a b ≡ false → a ≢ b
-ne_of_test a b h e = not_both (nat_eq a b) (Rattle.std.proofs.Common.eq-eqb a b e) h
+ne_of_test a b h e = both_ways (nat_eq a b) h (eq-eqb a b e)
 
 plain_good : (d : ℕ) → IsGoodKind (plain d)
 plain_good zero = tt
@@ -83,12 +81,12 @@ type_good n (tree.Plain d) f = plain_good d
 type_good n (tree.Array d m) f =
     let parts = nil_three (depth_faults n d) (fault_if (nat_eq d 0) (n + d) rule.IntForHandle) (fault_if (is_bad_length m) (n + d + 2) rule.ArrayLength) f in
     let bad = not_found (is_bad_length m) (n + d + 2) rule.ArrayLength parts.2 in
-    (ne_of_test d 0 (not_found (nat_eq d 0) (n + d) rule.IntForHandle parts.1), ne_of_test m 0 (or_false (nat_eq m 0) (nat_lt 64 m) bad).0)
+    (ne_of_test d 0 (not_found (nat_eq d 0) (n + d) rule.IntForHandle parts.1), ne_of_test m 0 (or_parts (nat_eq m 0) (nat_lt 64 m) bad).0)
 
 -- ---- parameters
 
 pub params_apart : (globals : List tree.Item) (before : List Variable) (n : ℕ) (ps : List tree.Param) → AreApart globals before → params_faults globals before n ps ≡ [] → AreApart globals (before ++ param_variables ps)
-params_apart globals before n [] a f = subst (AreApart globals) (sym (Rattle.std.proofs.Common.append-nil before)) a
+params_apart globals before n [] a f = subst (AreApart globals) (sym (append-nil before)) a
 params_apart globals before n (p ∷ ps) a f =
     let own = nil_left (param_faults globals before n p) (params_faults globals (before ++ param_variable p ∷ []) (n + param_width p) ps) f in
     let rest = nil_right (param_faults globals before n p) (params_faults globals (before ++ param_variable p ∷ []) (n + param_width p) ps) f in
@@ -113,7 +111,7 @@ pub while_block : (globals : List tree.Item) (s : Scope) (n : ℕ) (e : tree.Exp
 while_block globals s n e b f = nil_right (needed_faults s.visible (n + 1) for_int e) (block_faults globals s (n + 1 + expr_width e + 1) b) f
 
 nothing_more : (globals : List tree.Item) (xs : List Variable) → AreApart globals xs → AreApart globals (xs ++ [])
-nothing_more globals xs a = subst (AreApart globals) (sym (Rattle.std.proofs.Common.append-nil xs)) a
+nothing_more globals xs a = subst (AreApart globals) (sym (append-nil xs)) a
 
 mutual
   pub stmt_apart : (globals : List tree.Item) (s : Scope) (n : ℕ) (x : tree.Stmt) → AreApart globals s.declared → stmt_faults globals s n x ≡ [] → AreApart globals (s.declared ++ declared_in x)
@@ -183,7 +181,7 @@ and_false true b h e = h
 and_false false b h e = absurd (let q : false ≡ true = e in cc)
 
 positive : (d : ℕ) → d ≢ 0 → nat_lt 0 d ≡ true
-positive d ne = Rattle.std.proofs.Common.lt-ltb 0 d (omega (arith, ne))
+positive d ne = lt-ltb 0 d (omega (arith, ne))
 
 task_good : (globals before : List tree.Item) (n : ℕ) (w : List ℕ) (ps : List tree.Param) (d : ℕ) (b : tree.Block) → item_faults globals before n (tree.TaskOf w ps d b) ≡ [] → IsGoodText globals (record { params = ps; depth = d; body = b })
 task_good globals before n w ps d b f =
@@ -209,7 +207,7 @@ good_among globals before [] n which t f h = absurd (no_some t _ h refl)
 good_among globals before (tree.CellsOf w m ∷ rest) n which t f h =
     good_among globals (before ++ tree.CellsOf w m ∷ []) rest (n + item_width (tree.CellsOf w m)) which t (nil_right (item_faults globals before n (tree.CellsOf w m)) (items_faults globals (before ++ tree.CellsOf w m ∷ []) (n + item_width (tree.CellsOf w m)) rest) f) h
 good_among globals before (tree.TaskOf w ps d b ∷ rest) n zero t f h =
-    subst (IsGoodText globals) (some_one _ t h)
+    subst (IsGoodText globals) (same_Some _ t h)
     (task_good globals before n w ps d b (nil_left (item_faults globals before n (tree.TaskOf w ps d b)) (items_faults globals (before ++ tree.TaskOf w ps d b ∷ []) (n + item_width (tree.TaskOf w ps d b)) rest) f))
 good_among globals before (tree.TaskOf w ps d b ∷ rest) n (suc which) t f h =
     good_among globals (before ++ tree.TaskOf w ps d b ∷ []) rest (n + item_width (tree.TaskOf w ps d b)) which t (nil_right (item_faults globals before n (tree.TaskOf w ps d b)) (items_faults globals (before ++ tree.TaskOf w ps d b ∷ []) (n + item_width (tree.TaskOf w ps d b)) rest) f) h

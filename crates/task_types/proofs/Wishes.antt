@@ -1,6 +1,8 @@
 -- A typed task that stands at an event has a wish, and what it passes on fits.
 use Rattle.std.proofs.Common.{◌≡◌, ◌≢◌, ℕ, zero, suc, ◌+◌, Bool, true, false, cond, List, [], ◌∷◌, ◌⊎◌, inl, inr, refl, sym, ap, ◌∙◌, subst, eqb-true}
 use Rattle.std.specs.Prelude.{Some, None, ℤ, pos, nat_eq}
+use Rattle.std.proofs.lemmas.Option.{same_Some}
+use Rattle.fut_base.proofs.Cases.{by_bool}
 use Rattle.fut_base.specs.declared.record.Value.{Value}
 use Rattle.fut_base.specs.declared.record.Value.TheVariants.{Int}
 use Rattle.fut_base.specs.Dag.{Among}
@@ -17,7 +19,7 @@ use Rattle.fut_rules.specs.Widths.{type_width}
 use Rattle.task_machine.specs.Variables.{Slot, One, Many, Variables, value_of, slot_in, value_in, number_in, values_in}
 use Rattle.task_machine.specs.State.{TaskState, ToRead, ToWrite, ToSpawn, ToCreate, ToSync, ToGet, ToEnd, NoWish, local_value, first_step, local_step, write_of, spawn_of, end_of, wish_of_init, first_wish, wish_of}
 use Rattle.task_types.specs.Typed.{Text, text_at, variables_of, Fits, HasKind, ArgsFit, EndsWithReturn, IsTypedState, got_word, got_by, GetsDepth}
-use Rattle.task_types.proofs.Slots.{by_bool, some_one, no_some, nil_left, nil_right, unbroken}
+use Rattle.task_types.proofs.Slots.{no_some, nil_left, nil_right, unbroken}
 use Rattle.task_types.proofs.Given.{expr_given}
 use Rattle.task_types.proofs.Stepping.{Front, seen, front}
 use Rattle.task_types.proofs.Texts.{good_text}
@@ -154,7 +156,7 @@ end_fits P gives which s value t (WishesGet f d w fits word q u is a) h i = absu
 end_fits P gives which s value t (WishesEnd v w u is f) h i =
     let e : ToEnd v ≡ ToEnd value = sym w ∙ h in
     let same : v ≡ value = cc in
-    let text : u ≡ t = some_one u t (sym is ∙ i) in
+    let text : u ≡ t = same_Some u t (sym is ∙ i) in
     subst (Fits gives t.depth) same (subst (λ (y : Text). Fits gives y.depth v) text f)
 
 pub wished_end_fits : (gives : ℕ → ℕ → Bool) (P : tree.Program) (which : ℕ) (s : TaskState) (value : Value) (t : Text) → IsWellTyped P → IsTypedState gives P which s → local_step s ≡ None → wish_of P s ≡ ToEnd value → text_at P which ≡ Some t → Fits gives t.depth value
@@ -172,8 +174,8 @@ get_fits P gives which s future d k (WishesSync w) h g = absurd (let e : ToSync 
 get_fits P gives which s future d k (WishesGet f c w fits word q t is a) h (u, v, at, got, b) =
     let e : ToGet f ≡ ToGet future = sym w ∙ h in
     let same : f ≡ future = cc in
-    let text : u ≡ t = some_one u t (sym at ∙ is) in
-    let names : v ≡ word = some_one v word (sym got ∙ q) in
+    let text : u ≡ t = same_Some u t (sym at ∙ is) in
+    let names : v ≡ word = same_Some v word (sym got ∙ q) in
     let there : Among (record { name = word; kind = kind.Handle d }) (variables_of t) =
     subst (λ (y : Text). Among (record { name = word; kind = kind.Handle d }) (variables_of y)) text (subst (λ y. Among (record { name = y; kind = kind.Handle d }) (variables_of u)) names b)
     in

@@ -1,5 +1,6 @@
 //! What a caller still knows of a reader and of the writer that it lent to code for any judge or placer.
 ghost use Rattle.std.specs.Prelude.{◌≡◌, ◌+◌, ◌<◌, ◌≤◌, [], ◌∷◌, length, IfOk};
+ghost use Rattle.order_list.specs.Frames.{IsAsBefore, HasPut};
 ghost use Rattle.order_list.specs.Ordered.{put_after};
 ghost use Rattle.order_list.specs.Sides.{AreSides};
 ghost use Rattle.order_query.specs.Logs.{english_of, hebrew_of, count_of};
@@ -14,9 +15,7 @@ fn ask<J: Judge>(judge: &mut J, x: Item, y: Item) -> Result<Sides, Moved>
     requires x_known { x.0 < J.known judge.old }
     requires y_known { y.0 < J.known judge.old }
     ensures sides { IfOk result (λ sides. AreSides sides x.0 y.0 (J.english judge.old) (J.hebrew judge.old)) }
-    ensures known { J.known judge.new ≡ J.known judge.old }
-    ensures english { J.english judge.new ≡ J.english judge.old }
-    ensures home { J.home judge.new ≡ J.home judge.old }
+    ensures judge { IsAsBefore J.Judge judge.old judge.new }
 {
     judge.try_sides(x, y)
 }
@@ -39,10 +38,7 @@ fn place<P: Placer>(placer: &mut P, after_e: Item, after_h: Item) -> Item
     requires e_in { after_e.0 < length (P.english placer.old) }
     requires h_in { after_h.0 < length (P.hebrew placer.old) }
     requires room { 1 ≤ P.spare placer.old }
-    ensures english { P.english placer.new ≡ put_after after_e.0 (result.0 ∷ []) (P.english placer.old) }
-    ensures hebrew { P.hebrew placer.new ≡ put_after after_h.0 (result.0 ∷ []) (P.hebrew placer.old) }
-    ensures spare { P.spare placer.new + 1 ≡ P.spare placer.old }
-    ensures home { P.home placer.new ≡ P.home placer.old }
+    ensures put { HasPut P.Placer placer.old placer.new after_e.0 (result.0 ∷ []) after_h.0 (result.0 ∷ []) }
 {
     placer.insert(after_e, after_h)
 }

@@ -13,22 +13,22 @@ ends_before-requires-clause-kept_known g c = subst (λ l. AllOnKnown (g.J.Judge.
 pub returns-in_err-replace_end-clause-moved : goal.returns-in_err-replace_end-clause-moved
 returns-in_err-replace_end-clause-moved g c =
     let p = err_from_is_err_and c.from_residual-in_err-replace_end.result c.from_residual-in_err-replace_end.ensures.1 in
-    rw (p.1, p.2) (moved_on _ _ _ _ _ _ c.ends_before.ensures.may_move c.ends_before.ensures.loads c.in_err-replace_end.ensures.moved)
+    rw (p.1, p.2) (moved_on g.J.Judge _ c.ends_before.ensures.judge c.in_err-replace_end.ensures.moved)
 
 pub returns-then-len-capacity-clause-keeps : goal.returns-then-len-capacity-clause-keeps
 returns-then-len-capacity-clause-keeps g c =
-    let e = c.ends_before.ensures in
+    let e = c.ends_before.ensures.judge in
     read_at c.args.reach.now c.args.new _ _ _ c.args.readers.now.items c.replace_end.new.readers.items _ _ _ c.args.rise true true e.known e.english e.hebrew
     (sym (c.in_ok-later.ensures.tells c.if-later.true).0) c.in_ok-replace_end.ensures.keeps
 
 pub returns-in_err-replace_all-clause-moved : goal.returns-in_err-replace_all-clause-moved
 returns-in_err-replace_all-clause-moved g c =
     let p = err_from_is_err_and c.from_residual-in_err-replace_all.result c.from_residual-in_err-replace_all.ensures.1 in
-    rw (p.1, p.2) (moved_on _ _ _ _ _ _ c.ends_before.ensures.may_move c.ends_before.ensures.loads c.in_err-replace_all.ensures.moved)
+    rw (p.1, p.2) (moved_on g.J.Judge _ c.ends_before.ensures.judge c.in_err-replace_all.ensures.moved)
 
 pub returns-then-later-2-clause-keeps : goal.returns-then-later-2-clause-keeps
 returns-then-later-2-clause-keeps g c =
-    let e = c.ends_before.ensures in
+    let e = c.ends_before.ensures.judge in
     let K = g.J.Judge.known c.args.judge.now in
     let E = g.J.Judge.english c.args.judge.now in
     let H = g.J.Judge.hebrew c.args.judge.now in

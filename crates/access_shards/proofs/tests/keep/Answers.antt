@@ -15,7 +15,7 @@ returns-then-writes c =
     let same = ap (λ l. length l.order) c.english.ensures.list in
     let lt : c.args.at.number < n = omega (arith, same) in
     let was : AreKnown n c.reserve.new.self.kept = subst (AreKnown n) (sym c.reserve.ensures.kept) c.requires in
-    subst (λ k. AreKnown k c.write.new.self.kept) (sym c.write.ensures.known) (c.in_ok-write.ensures.strands n lt was)
+    subst (λ k. AreKnown k c.write.new.self.kept) (sym c.write.ensures.judge.known) (c.in_ok-write.ensures.strands n lt was)
 
 pub returns : goal.returns
 returns c =
@@ -23,4 +23,4 @@ returns c =
     let same = ap (λ l. length l.order) c.english.ensures.list in
     let lt : c.args.at.number < n = omega (arith, same) in
     let was : AreKnown n c.reserve.new.self.kept = subst (AreKnown n) (sym c.reserve.ensures.kept) c.requires in
-    subst (λ k. AreKnown k c.read.new.self.kept) (sym c.read.ensures.known) (c.in_ok-read.ensures.strands n lt was)
+    subst (λ k. AreKnown k c.read.new.self.kept) (sym c.read.ensures.judge.known) (c.in_ok-read.ensures.strands n lt was)

@@ -1,6 +1,7 @@
 use Rattle.std.proofs.Common.{◌≡◌, ℕ, ◌+◌, ◌-◌, ◌<◌, [], ◌∷◌, ◌++◌, length, refl, sym, ap, subst, ◌∙◌, append_assoc, append-nil, arith, Some, nat_lt, true}
 use Rattle.std.proofs.lemmas.Grind.{common_steps}
 use Rattle.std.proofs.lemmas.Bool.Decides.{nat_tests}
+use Rattle.run_record.specs.declared.bounds.TheConstants.{MOST_ARGUMENTS}
 use Rattle.run_record.specs.RunText.{value_text, values_line}
 use Rattle.run_record.specs.Records.{AreValues}
 use Rattle.run_record.specs.Machine.{Datum, Arguments, Takes, Refuses}
@@ -16,7 +17,7 @@ returns-then-byte-eq10 c =
     let vs = c.more.all.items in
     let ys = c.bump.new.self in
     let front = in_view c.more.cursor 10 (sym c.peek.ensures ∙ c.in-Some.is ∙ ap Some c.if-byte-eq10.true) ∙ ap (λ q. 10 ∷ q) (sym c.bump.ensures) in (
-      onward c.more.invariant.goes (takes (Arguments (16 - length vs)) 10 [] c.more.cursor ys refl front),
+      onward c.more.invariant.goes (takes (Arguments (MOST_ARGUMENTS - length vs)) 10 [] c.more.cursor ys refl front),
       c.more.invariant.text [] ys front ∙ ap (λ q. values_line q ++ ys) (append-nil vs),
       (c.more.invariant.few, c.more.invariant.values),
     )
@@ -31,12 +32,12 @@ more-preserved c =
     let items : c.push.new.self.items ≡ vs ++ v ∷ [] = grind (arith, common_steps) in
     let many : length c.push.new.self.items ≡ length vs + 1 = ap length items ∙ length_more vs v in
     let few = c.more.invariant.few in
-    let less : length vs < 16 = omega (arith, few, c.len.ensures, c.if-len-eq-MOST_ARGUMENTS.false) in
-    let some : nat_lt 0 (16 - length vs) ≡ true = grind (arith, nat_tests) in
-    let left : 16 - length vs - 1 ≡ 16 - length c.push.new.self.items = omega (arith, many) in
-    let space = takes (Arguments (16 - length vs)) 32 (Datum ∷ Arguments (16 - length vs - 1) ∷ []) c.more.cursor m (is_true (nat_lt 0 (16 - length vs)) (Takes (Datum ∷ Arguments (16 - length vs - 1) ∷ [])) Refuses some) front in
+    let less : length vs < MOST_ARGUMENTS = omega (arith, few, c.len.ensures, c.if-len-eq-MOST_ARGUMENTS.false) in
+    let some : nat_lt 0 (MOST_ARGUMENTS - length vs) ≡ true = grind (arith, nat_tests) in
+    let left : MOST_ARGUMENTS - length vs - 1 ≡ MOST_ARGUMENTS - length c.push.new.self.items = omega (arith, many) in
+    let space = takes (Arguments (MOST_ARGUMENTS - length vs)) 32 (Datum ∷ Arguments (MOST_ARGUMENTS - length vs - 1) ∷ []) c.more.cursor m (is_true (nat_lt 0 (MOST_ARGUMENTS - length vs)) (Takes (Datum ∷ Arguments (MOST_ARGUMENTS - length vs - 1) ∷ [])) Refuses some) front in
     record {
-      goes = subst (λ (n : ℕ). Steps (Arguments 16 ∷ []) c.args.cursor.now (Arguments n ∷ []) ys) left (onward c.more.invariant.goes (onward space (first_goes (Datum ∷ []) (Arguments (16 - length vs - 1) ∷ []) c.in_ok-next.ensures.0)));
+      goes = subst (λ (n : ℕ). Steps (Arguments MOST_ARGUMENTS ∷ []) c.args.cursor.now (Arguments n ∷ []) ys) left (onward c.more.invariant.goes (onward space (first_goes (Datum ∷ []) (Arguments (MOST_ARGUMENTS - length vs - 1) ∷ []) c.in_ok-next.ensures.0)));
       text = λ rest r e.
           c.more.invariant.text (v ∷ rest) r
           (front ∙ ap (λ q. 32 ∷ q) (c.in_ok-next.ensures.1 ∙ ap (λ q. value_text v ++ q) e ∙ sym (append_assoc (value_text v) (values_line rest) r)))

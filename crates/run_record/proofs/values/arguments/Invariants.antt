@@ -1,4 +1,5 @@
 use Rattle.std.proofs.Common.{◌≡◌, ◌-◌, ◌≤◌, ◌++◌, ◌∷◌, [], List, ℕ, length}
+use Rattle.run_record.specs.declared.bounds.TheConstants.{MOST_ARGUMENTS}
 use Rattle.fut_base.specs.declared.record.Value.{Value}
 use Rattle.run_record.specs.RunText.{values_line}
 use Rattle.run_record.specs.Records.{AreValues}
@@ -8,9 +9,9 @@ use Rattle.run_record.proofs.values.arguments.Given as goal
 
 abbrev pub invariant-more : goal.invariant-more
 invariant-more l = record {
-  goes : Steps (Arguments 16 ∷ []) l.fn.cursor (Arguments (16 - length l.all.items) ∷ []) l.cursor;
+  goes : Steps (Arguments MOST_ARGUMENTS ∷ []) l.fn.cursor (Arguments (MOST_ARGUMENTS - length l.all.items) ∷ []) l.cursor;
   text : (rest : List Value) (r : List ℕ) → l.cursor ≡ values_line rest ++ r → l.fn.cursor ≡ values_line (l.all.items ++ rest) ++ r;
-  few : length l.all.items ≤ 16;
+  few : length l.all.items ≤ MOST_ARGUMENTS;
   values : AreValues l.all.items;
 }
 

@@ -1,10 +1,10 @@
 use Rattle.std.proofs.Common.{◌≡◌, ◌<◌, ◌∙◌, ap, refl, sym, subst, length, false}
 use Rattle.std.specs.Prelude.{slice_get, slice_set, Some}
-use Rattle.std.proofs.lemmas.Option.{slice_get_read}
+use Rattle.std.proofs.lemmas.Option.{slice_get_read, same_Some}
 use Rattle.task_code.specs.Tasks.{IsStill}
 use Rattle.run_replay.specs.declared.line.Line.{Line}
 use Rattle.run_replay.specs.Replays.{HasRoom, StillAt}
-use Rattle.run_replay.proofs.Lining.{same_at, get_set_here, some_same}
+use Rattle.run_replay.proofs.Lining.{same_at, get_set_here}
 use Rattle.run_replay.proofs.Outcome.{on_ok}
 use Rattle.run_replay.proofs.table.give_room.Goals as goal
 
@@ -45,7 +45,7 @@ returns-clause-still c = λ st.
     let here : t < length lines = subst (λ (xs : _). t < length xs) (sym c.reserve.ensures.items) c.requires.exists in
     let present : slice_get lines t ≡ Some before = slice_get_read lines (length lines) t before refl here c.index_mut.ensures.value in
     let old = subst (λ xs. StillAt c.args.code.now xs t) (sym c.reserve.ensures.items) st in
-    let same : old.0 ≡ before = some_same old.0 before (sym old.1 ∙ present) in (
+    let same : old.0 ≡ before = same_Some old.0 before (sym old.1 ∙ present) in (
       c.make_room.new.line,
       get_set_here lines t c.make_room.new.line here,
       c.make_room.ensures.same.task.ended ∙ subst (λ (l : Line). l.task.spot.ended ≡ false) same old.2,

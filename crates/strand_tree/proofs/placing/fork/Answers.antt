@@ -21,11 +21,13 @@ returns-clause-numbers g c =
     let more = grown_by_one _ _ _ _ e.numbered.first (omega (arith, c.item.ensures, c.requires.at_in.first)) e.english in
     record { kid_is = e.item; cont_is = c.insert-cont.ensures.item ∙ more }
 
-pub returns-clause-english : goal.returns-clause-english
-returns-clause-english g c =
-    let e = c.insert-kid.ensures in
-    english_fork _ _ _ _ _ _ _ _ c.item.ensures refl e.numbered.first e.item e.english c.insert-cont.ensures.english
-
-pub returns-clause-hebrew : goal.returns-clause-hebrew
-returns-clause-hebrew g c =
-    hebrew_fork _ _ _ _ _ _ _ _ c.item-2.ensures c.item-3.ensures c.insert-kid.ensures.hebrew c.insert-cont.ensures.hebrew
+pub returns-clause-put : goal.returns-clause-put
+returns-clause-put g c =
+    let kid = c.insert-kid.ensures in
+    let cont = c.insert-cont.ensures in
+    record {
+      english = english_fork _ _ _ _ _ _ _ _ c.item.ensures refl kid.numbered.first kid.item kid.english cont.english;
+      hebrew = hebrew_fork _ _ _ _ _ _ _ _ c.item-2.ensures c.item-3.ensures kid.hebrew cont.hebrew;
+      spare = omega (arith, kid.spare, cont.spare);
+      home = cont.home ∙ kid.home;
+    }

@@ -18,16 +18,16 @@ returns-in-Some-clause-kept g c =
 pub keep_read-requires-clause-kept_known : goal.keep_read-requires-clause-kept_known
 keep_read-requires-clause-kept_known g c = λ a h.
     let k = known_readers (g.J.Judge.known c.args.judge.now) c.args.self.now.kept c.in-Clean.writer c.in-Clean.readers (ap (λ v. v.kept) (sym c.self.view_is) ∙ c.in-Clean.is) c.requires.kept_known a h in
-    omega (arith, k, c.unreached_writer.ensures.known)
+    omega (arith, k, c.unreached_writer.ensures.judge.known)
 
 pub returns-in_err-self-inside-clause-moved : goal.returns-in_err-self-inside-clause-moved
 returns-in_err-self-inside-clause-moved g c =
     let p = err_from_is_err_and c.from_residual-in_err-self-inside.result c.from_residual-in_err-self-inside.ensures.1 in
-    rw (p.1, p.2) (moved_on _ _ _ _ _ _ c.unreached_writer.ensures.may_move c.unreached_writer.ensures.loads c.in_err-self-inside.ensures.moved)
+    rw (p.1, p.2) (moved_on g.J.Judge _ c.unreached_writer.ensures.judge c.in_err-self-inside.ensures.moved)
 
 pub returns-clause-kept : goal.returns-clause-kept
 returns-clause-kept g c =
-    let e = c.unreached_writer.ensures in
+    let e = c.unreached_writer.ensures.judge in
     let K = g.J.Judge.known c.args.judge.now in
     let E = g.J.Judge.english c.args.judge.now in
     let H = g.J.Judge.hebrew c.args.judge.now in

@@ -1,4 +1,4 @@
-use Rattle.std.proofs.Common.{ℕ, List, [], ◌∷◌, ◌++◌, ◌∙◌, sym, subst, ap, arith, append_assoc, IfOk}
+use Rattle.std.proofs.Common.{rules, ℕ, List, [], ◌∷◌, ◌++◌, ◌∙◌, sym, subst, ap, arith, append_assoc, IfOk}
 use Rattle.std.specs.declared.result.Result.{Result}
 use Rattle.atomic_table.specs.Table.{Me}
 use Rattle.order_list.specs.declared.judge.Sides.{Sides}
@@ -12,25 +12,29 @@ use Rattle.order_query.proofs.Asking.{asked_sides}
 use Rattle.order_query.proofs.orders.Orders.try_sides.Goals as goal
 use Rattle.order_query.proofs.orders.Orders.try_sides.Goals.{then-first-second, else-first-second}
 
-pub returns-then-first-eq1-clause-loads : goal.returns-then-first-eq1-clause-loads
-returns-then-first-eq1-clause-loads g c =
+pub returns-then-first-eq1-clause-reader : goal.returns-then-first-eq1-clause-reader
+returns-then-first-eq1-clause-reader g c =
     let n = c.load_version-first.result in
     let m = c.load_version.result in
     let one = ap (λ (e : Me (Unit {0}) View). e.0.loaded) c.load_version-first.ensures.view in
     let two = ap (λ (e : Me (Unit {0}) View). e.0.loaded) c.load_version.ensures.view in
     let old = ap (λ (r : Reading). r.loaded) c.reader.view_is in
-    (n ∷ m ∷ [], two ∙ ap (λ (l : List ℕ). l ++ m ∷ []) (one ∙ ap (λ (l : List ℕ). l ++ n ∷ []) old) ∙ append_assoc c.args.reader.now.loaded (n ∷ []) (m ∷ []))
+    let all = two ∙ ap (λ (l : List ℕ). l ++ m ∷ []) (one ∙ ap (λ (l : List ℕ). l ++ n ∷ []) old) ∙ append_assoc c.args.reader.now.loaded (n ∷ []) (m ∷ []) in
+    record { loads = (n ∷ m ∷ [], all); log = search rules; home = search rules }
 
-pub returns-clause-loads : goal.returns-clause-loads
-returns-clause-loads g c =
+pub returns-clause-reader : goal.returns-clause-reader
+returns-clause-reader g c =
     let n = c.load_version-first.result in
     let m = c.load_version-second.result in
     let loaded : Me (Unit {0}) View → List ℕ = λ e. e.0.loaded in
     let one = ap loaded c.load_version-first.ensures.view in
-    let labels = ap loaded c.load_label-hebrew_y.ensures.view ∙ ap loaded c.load_label-hebrew_x.ensures.view ∙ ap loaded c.load_label-english_y.ensures.view ∙ ap loaded c.load_label-english_x.ensures.view in
+    let labels_e = ap loaded c.load_label-english_y.ensures.view ∙ ap loaded c.load_label-english_x.ensures.view in
+    let labels = ap loaded c.load_label-hebrew_y.ensures.view ∙ ap loaded c.load_label-hebrew_x.ensures.view ∙ labels_e in
     let two = ap loaded c.load_version-second.ensures.view in
     let old = ap (λ (r : Reading). r.loaded) c.reader.view_is in
-    (n ∷ m ∷ [], two ∙ ap (λ (l : List ℕ). l ++ m ∷ []) (labels ∙ one ∙ ap (λ (l : List ℕ). l ++ n ∷ []) old) ∙ append_assoc c.args.reader.now.loaded (n ∷ []) (m ∷ []))
+    let first = labels ∙ one ∙ ap (λ (l : List ℕ). l ++ n ∷ []) old in
+    let all = two ∙ ap (λ (l : List ℕ). l ++ m ∷ []) first ∙ append_assoc c.args.reader.now.loaded (n ∷ []) (m ∷ []) in
+    record { loads = (n ∷ m ∷ [], all); log = search rules; home = search rules }
 
 pub returns-clause-stays : goal.returns-clause-stays
 returns-clause-stays g c =

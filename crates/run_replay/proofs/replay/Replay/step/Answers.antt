@@ -1,4 +1,5 @@
 use Rattle.std.proofs.Common.{◌∙◌, sym, subst}
+use Rattle.fut_base.specs.declared.limits.TheConstants.{MOST_LOCAL_STEPS}
 use Rattle.fut_base.specs.Events.{action_of, event_of}
 use Rattle.task_machine.proofs.Places.{get_below}
 use Rattle.task_code.specs.Tasks.{Wishes}
@@ -22,7 +23,7 @@ pub returns-then-is_long : goal.returns-then-is_long
 returns-then-is_long c = λ P h m k.
     let r = running_task P c.args.code.now h c.args.self.now m c.args.entry.now.task k (sym c.runs.ensures ∙ c.if-not-runs.false) in
     let w = c.ask-wish.ensures.wish P h m r.0 k r.1.0 in
-    (too_long P m (event_of c.args.entry.now) r.0 r.1 (subst (λ z. Wishes P 1000000 r.0.state z) (c.is_long.ensures.long c.if-is_long.true) w), c.ask-wish.ensures.still P h m k)
+    (too_long P m (event_of c.args.entry.now) r.0 r.1 (subst (λ z. Wishes P MOST_LOCAL_STEPS r.0.state z) (c.is_long.ensures.long c.if-is_long.true) w), c.ask-wish.ensures.still P h m k)
 
 pub waits-requires : goal.waits-requires
 waits-requires c = let l = c.ask-wish.ensures.running in record { exists = get_below _ _ _ l.1 }

@@ -1,13 +1,12 @@
 use Rattle.std.proofs.Common.{◌+◌, ◌<◌, ◌∙◌, ap, refl, sym, subst, length, arith}
 use Rattle.std.specs.Prelude.{option_to_list, reverse}
-use Rattle.std.proofs.lemmas.Option.{slice_get_read}
+use Rattle.std.proofs.lemmas.Option.{slice_get_read, same_Some}
 use Rattle.fut_base.specs.Events.{action_of, event_of}
 use Rattle.run_replay.specs.contracts.replay.Replay.{the_view}
 use Rattle.run_replay.specs.declared.line.Line.{Line}
 use Rattle.run_laws.specs.Ready.{ready_by}
 use Rattle.run_replay.specs.Replays.{ReplayNow, StandsStill, StillAt, Takes, AreBegun, IsLegalAct}
 use Rattle.run_replay.proofs.Outcome.{on_err}
-use Rattle.run_replay.proofs.Lining.{some_same}
 use Rattle.run_replay.proofs.Acting.{may_find}
 use Rattle.run_replay.proofs.Starting.{still_by, takes_by, now_of}
 use Rattle.run_replay.proofs.replay.Replay.take.Goals as goal
@@ -51,7 +50,7 @@ returns-clause-taken c =
     let exists = subst (λ (v : ReplayNow). t < length v.lines) (sym c.self.view_is) c.requires.exists in
     let present = slice_get_read lines (length lines) t x refl exists c.index.ensures in
     let again = slice_get_read lines (length lines) t c.index-2.result.now refl exists c.index-2.ensures in
-    let same = some_same c.index-2.result.now x (sym again ∙ present) in
+    let same = same_Some c.index-2.result.now x (sym again ∙ present) in
     let are = subst (λ (l : Line). AreBegun code l.future a (option_to_list c.in_ok-child.child)) same c.in_ok-child.ensures in
     let new : ReplayNow = (now_of c.commit.new.lines.items c.write.new.cells.items c.reorder.new.ready.items (c.self.inside.entries + 1) (c.self.inside.creates + c.creates_of.result) (c.self.inside.strands + c.strands_of.result) c.take.new.self) in
     subst (λ v. Takes code v new t a (event_of c.in_ok-own.own)) c.self.view_is

@@ -1,7 +1,7 @@
 use Rattle.std.proofs.Common.{◌∙◌, sym}
 use Rattle.std.proofs.lemmas.Slice.Eq.{slice_eq-Decides}
-use Rattle.run_replay.proofs.Sameness.{value_decides}
-use Rattle.run_replay.proofs.same.same_args.Goals as goal
+use Rattle.fut_base.proofs.Values.{value_decides}
+use Rattle.fut_base.proofs.acts.same_args.Goals as goal
 
 pub returns : goal.returns
 returns c =

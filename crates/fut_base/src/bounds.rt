@@ -1,9 +1,9 @@
-//! That the numbers of a history are those of a run text. Nothing is done here: each number has the bounds of its type, and to
-//! look at it is what shows this.
+//! That the numbers of a history are within the bounds of their types. Nothing is done here: to look at a number is what shows
+//! this.
 ghost use Rattle.fut_base.specs.Events.{action_of, event_of, events_of};
-ghost use Rattle.run_record.specs.Records.{AreNumbered, AreValues, IsActionWith, IsAny, IsEventWith, IsFinish, IsNumber, IsValue};
+ghost use Rattle.fut_base.specs.Bounds.{AreNumbered, AreValues, IsActionWith, IsAny, IsEventWith, IsFinish, IsNumber, IsValue};
 
-use fut_base::record::{Act, Entry, Finish, History, Value};
+use crate::record::{Act, Entry, Finish, History, Value};
 
 fn number_has_bounds(_number: u32)
     ensures { IsNumber _number }
@@ -77,7 +77,7 @@ fn entry_has_bounds(entry: &Entry)
     act_has_bounds(&entry.act);
 }
 
-/// Each number of a history is within the bounds of a run text. It does nothing.
+/// Each number of a history is within the bounds of its type. It does nothing.
 pub fn history_has_bounds(history: &History)
     ensures { AreNumbered (events_of history.now) }
 {

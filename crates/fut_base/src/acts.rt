@@ -1,8 +1,10 @@
-//! Whether two acts are the same.
-ghost use Rattle.std.specs.Prelude.{◌≡◌, ◌↔◌, IsTrue};
-ghost use Rattle.fut_base.specs.Events.{action_of};
+//! Whether two acts are the same, and copies of them.
+ghost use Rattle.std.specs.Prelude.{◌≡◌, ◌↔◌, IfOk, IsTrue};
+ghost use Rattle.fut_base.specs.Events.{action_of, event_of};
 
-use fut_base::record::{Act, Args};
+use crate::list::NoMemory;
+use crate::record::{Act, Args, Entry};
+use std::alloc::Global;
 
 fn same_args(a: &Args, b: &Args) -> bool
     ensures { IsTrue result ↔ (a.now.items ≡ b.now.items) }
@@ -65,4 +67,58 @@ pub fn same_act(a: &Act, b: &Act) -> bool
         (Act::End { value: v }, Act::End { value }) => v == value,
         _ => false,
     }
+}
+
+/// The entry of a task on a strand with an equal act.
+pub fn copy_of(alloc: Global, task: u32, strand: u32, act: &Act) -> Result<Entry, NoMemory>
+    ensures { IfOk result (λ e. event_of e ≡ record { task = task; strand = strand; action = action_of act.now }) }
+{
+    let act = match act {
+        Act::Read { cell, value } => Act::Read {
+            cell: *cell,
+            value: *value,
+        },
+        Act::Write { cell, value } => Act::Write {
+            cell: *cell,
+            value: *value,
+        },
+        Act::Spawn {
+            code,
+            child,
+            kid,
+            cont,
+            args,
+        } => Act::Spawn {
+            code: *code,
+            child: *child,
+            kid: *kid,
+            cont: *cont,
+            args: args.copy(alloc)?,
+        },
+        Act::Create {
+            code,
+            child,
+            kid,
+            cont,
+            args,
+        } => Act::Create {
+            code: *code,
+            child: *child,
+            kid: *kid,
+            cont: *cont,
+            args: args.copy(alloc)?,
+        },
+        Act::Sync { strand } => Act::Sync { strand: *strand },
+        Act::Get {
+            future,
+            value,
+            strand,
+        } => Act::Get {
+            future: *future,
+            value: *value,
+            strand: *strand,
+        },
+        Act::End { value } => Act::End { value: *value },
+    };
+    Ok(Entry { task, strand, act })
 }

@@ -1,6 +1,6 @@
 use Rattle.std.proofs.Common.{drop}
-use Rattle.run_record.specs.Records.{AreValues}
-use Rattle.run_check.proofs.numbers.values_have_bounds.Given as goal
+use Rattle.fut_base.specs.Bounds.{AreValues}
+use Rattle.fut_base.proofs.bounds.values_have_bounds.Given as goal
 
 abbrev pub invariant-loop-value : goal.invariant-loop-value
 invariant-loop-value l = record { whole : AreValues (drop l.value-index l.values) → AreValues l.values }

@@ -1,0 +1,12 @@
+use Rattle.std.proofs.Common.{◌∙◌}
+use Rattle.bench_parts.proofs.Drawing.{split_draws}
+use Rattle.bench_parts.proofs.draws.split.Goals as goal
+
+pub returns : goal.returns
+returns c =
+    let note = c.note-pass.ensures in
+    let split = c.split-other.ensures in
+    let tell = c.tell.ensures in
+    let same = tell.clock ∙ note.clock.0 ∙ c.requires.clock_is in
+    split_draws c.args.clock.now c.args.holder.now c.tell.new.holder c.args.task _ _ _ _ _ c.requires same
+    note.holder note.pass split.old split.new c.join.ensures.told.view tell.told.view
