@@ -1,5 +1,6 @@
 //! From the bytes of a program text to its code, or to its canonical text.
 ghost use Rattle.std.specs.Prelude.{◌≡◌, ◌≤◌, length, MatchResult};
+ghost use Rattle.fut_base.specs.declared.limits.TheConstants.{MOST_PROGRAM_BYTES};
 ghost use Rattle.fut_syntax.specs.Trees as tree;
 ghost use Rattle.task_code.specs.Flat.{IsCodeOf};
 ghost use Rattle.fut_driver.specs.Verdict.{IsWellTypedText, IsPrinted};
@@ -26,7 +27,7 @@ pub enum Refusal {
 
 /// The tree of a text of at most 1,048,576 bytes.
 fn tree_of(alloc: Global, text: &[u8]) -> Result<Program, Refusal>
-    requires { length text.now ≤ 1048576 }
+    requires { length text.now ≤ MOST_PROGRAM_BYTES }
     ensures { MatchResult result (λ p. IsOfTree text.now p) (λ f. IsRefused text.now f) }
 {
     match parse(alloc, text) {
@@ -38,7 +39,7 @@ fn tree_of(alloc: Global, text: &[u8]) -> Result<Program, Refusal>
 
 /// The code of a program text of at most 1,048,576 bytes.
 pub fn code_for(alloc: Global, text: &[u8]) -> Result<Code, Refusal>
-    requires { length text.now ≤ 1048576 }
+    requires { length text.now ≤ MOST_PROGRAM_BYTES }
     ensures { MatchResult result
         (λ code. (P : tree.Program) × IsWellTypedText text.now P × IsCodeOf P code)
         (λ f. IsRefused text.now f) }
@@ -60,7 +61,7 @@ pub fn code_for(alloc: Global, text: &[u8]) -> Result<Code, Refusal>
 
 /// The canonical text of a program text of at most 1,048,576 bytes, if it breaks no type rule.
 pub fn printed(alloc: Global, text: &[u8]) -> Result<Text, Refusal>
-    requires { length text.now ≤ 1048576 }
+    requires { length text.now ≤ MOST_PROGRAM_BYTES }
     ensures { MatchResult result (λ t. IsPrinted text.now t.items) (λ f. IsRefused text.now f) }
 {
     let program = tree_of(alloc, text)?;
