@@ -1,5 +1,7 @@
 -- What a call was given.
 use Rattle.std.specs.Prelude.{ℕ, Bool, List, Option}
+use Rattle.fut_base.specs.declared.ports.Source as source
+use Rattle.fut_base.specs.declared.ports.Sink as sink
 use Rattle.command_words.specs.declared.words.Command.{Command}
 use Rattle.command_words.specs.Asking.{AreWordsOf}
 
@@ -14,17 +16,16 @@ pub record Asked : Type 0 where
   pub faults_before : ℕ
   pub faults_after : ℕ
 
--- what a call was given, by what its source tells before and after it: what is left, whether the last take answered the end, and the
--- count of faults
-abbrev pub asked_of : {S : Type 0} → Bool → List (List ℕ) → (S → Option (List ℕ)) → (S → Bool) → (S → ℕ) → S → S → Asked
-asked_of may_run words left ended faults old new = record {
+-- the same, by what the source tells before and after the call
+abbrev pub asked_of : {S : Type 0} → source.Ghosts S → Bool → List (List ℕ) → S → S → Asked
+asked_of g may_run words old new = record {
   may_run = may_run;
   words = words;
-  left_before = left old;
-  left_after = left new;
-  ended = ended new;
-  faults_before = faults old;
-  faults_after = faults new;
+  left_before = g.left old;
+  left_after = g.left new;
+  ended = g.ended new;
+  faults_before = g.faults old;
+  faults_after = g.faults new;
 }
 
 -- what the sink held before and after a call, and its count of faults before and after it
@@ -35,8 +36,8 @@ pub record Told : Type 0 where
   pub faults_after : ℕ
 
 -- the same, by what the sink tells
-abbrev pub told_of : {K : Type 0} → (K → Option (List ℕ)) → (K → ℕ) → K → K → Told
-told_of held faults old new = record { held_before = held old; held_after = held new; faults_before = faults old; faults_after = faults new }
+abbrev pub told_of : {K : Type 0} → sink.Ghosts K → K → K → Told
+told_of g old new = record { held_before = g.held old; held_after = g.held new; faults_before = g.faults old; faults_after = g.faults new }
 
 -- the words ask for this
 abbrev pub Asks : Asked → Command → Type 0

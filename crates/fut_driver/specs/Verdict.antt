@@ -254,3 +254,7 @@ pub record IsUnhindered (a : Asked) (t : Told) : Type 0 where
   pub fit : IsFit command bytes
   pub source_quiet : Rose a.faults_before a.faults_after → ⊥
   pub sink_quiet : Rose t.faults_before t.faults_after → ⊥
+
+-- where nothing hinders, the status is one of those
+abbrev pub IsComplete : Asked → Told → Status → Type 0
+IsComplete a t s = IsUnhindered a t → IsFree a s

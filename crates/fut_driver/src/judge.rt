@@ -49,7 +49,7 @@ fn prepared(alloc: Global, command: Command, bytes: Vec<u8>) -> Prepared
 
 /// Reads the text where the words ask for something, and does it, but for a run on several workers.
 pub fn judge<S: Source>(alloc: Global, words: &Words, may_run: bool, source: &mut S) -> Prepared
-    ensures judged { IsJudged (asked_of may_run words.now S.left S.ended S.faults source.old source.new) result }
+    ensures judged { IsJudged (asked_of S.Source may_run words.now source.old source.new) result }
     ensures usage { IsUsage result → source.new ≡ source.old }
 {
     let Some(command) = words.command(may_run) else {

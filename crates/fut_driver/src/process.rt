@@ -32,8 +32,8 @@ pub fn carry_out<R: Threads + Wait + Sync, S: Source, K: Sink, G: Gate + Sync>(
     gate: &G,
 ) -> ExitCode
     ensures { (line : Line) × IsLineOf given line × EndsWith line
-        (λ words. asked_of true words S.left S.ended S.faults source.old source.new)
-        (told_of K.held K.faults out.old out.new)
+        (λ words. asked_of S.Source true words source.old source.new)
+        (told_of K.Sink out.old out.new)
         (exit_status result) }
 {
     let line = line_of(alloc, given);
@@ -51,8 +51,8 @@ pub fn answer_line<R: Threads + Wait + Sync, S: Source, K: Sink, G: Gate + Sync>
     gate: &G,
 ) -> Ended
     ensures answer { IsLineAnswer line.now
-        (λ words. asked_of true words S.left S.ended S.faults source.old source.new)
-        (told_of K.held K.faults out.old out.new)
+        (λ words. asked_of S.Source true words source.old source.new)
+        (told_of K.Sink out.old out.new)
         result.status (events_of result.history) }
 
     // Where it has no words nothing is read.
@@ -71,7 +71,7 @@ pub fn answer_line<R: Threads + Wait + Sync, S: Source, K: Sink, G: Gate + Sync>
 /// Writes the line of a status.
 fn refuse<K: Sink>(alloc: Global, status: Status, out: &mut K) -> Ended
     ensures { IsRefusal
-        (told_of K.held K.faults out.old out.new)
+        (told_of K.Sink out.old out.new)
         status result.status (events_of result.history) }
 {
     let outcome = Outcome::bare(alloc, status);

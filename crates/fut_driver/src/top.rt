@@ -3,7 +3,7 @@ ghost use Rattle.std.specs.Prelude.{◌≡◌, true, false};
 ghost use Rattle.fut_base.specs.Events.{events_of};
 ghost use Rattle.fut_driver.specs.Given.{Asked, Told, asked_of, told_of};
 ghost use Rattle.fut_driver.specs.Outcomes.{IsEnding};
-ghost use Rattle.fut_driver.specs.Verdict.{IsAnswer, IsUnhindered, IsFree};
+ghost use Rattle.fut_driver.specs.Verdict.{IsAnswer, IsComplete};
 ghost use Rattle.fut_driver.specs.declared.status.Status.TheVariants as status;
 
 use crate::job::{Prepared, run_on_workers};
@@ -23,8 +23,9 @@ use std::thread::Threads;
 /// The words are `check`, `replay`, or `serial` or `run` with options behind it, each at most once and in any order: `--events`
 /// and a number from 1 to 1,000,000, `--brief`, and for `run` `--workers` and a number from 1 to 64. For all others the answer is
 /// `Usage`, and nothing is read. A run goes on 4 workers, or as many as the words say, each a thread; with one worker it is the serial
-/// run, in which a child or future runs to its end before its maker goes on. It ends after 100,000 entries, or as many as the words say. The history is that of the run or of the legal record, also where the sink failed
-/// while its text was written; where there is neither it is empty.
+/// run, in which a child or future runs to its end before its maker goes on. It ends after 100,000 entries, or as many as the words
+/// say. The history is that of the run or of the legal record, also where the sink failed while its text was written; where there is
+/// neither it is empty.
 pub fn forder<R: Threads + Wait + Sync, S: Source, K: Sink, G: Gate + Sync>(
     rt: &R,
     alloc: Global,
@@ -34,18 +35,10 @@ pub fn forder<R: Threads + Wait + Sync, S: Source, K: Sink, G: Gate + Sync>(
     gate: &G,
 ) -> Ended
     // The status, the history and what was written are those of a verdict whose causes hold.
-    ensures answer { IsAnswer
-        (asked_of true words.now S.left S.ended S.faults source.old source.new)
-        (told_of K.held K.faults out.old out.new)
-        result.status (events_of result.history) }
+    ensures answer { IsAnswer (asked_of S.Source true words.now source.old source.new) (told_of K.Sink out.old out.new) result.status (events_of result.history) }
 
     // A well-typed program that nothing hinders is printed or run.
-    ensures complete { IsUnhindered
-        (asked_of true words.now S.left S.ended S.faults source.old source.new)
-        (told_of K.held K.faults out.old out.new)
-        → IsFree
-        (asked_of true words.now S.left S.ended S.faults source.old source.new)
-        result.status }
+    ensures complete { IsComplete (asked_of S.Source true words.now source.old source.new) (told_of K.Sink out.old out.new) result.status }
 
     // With other words nothing is read.
     ensures usage { result.status ≡ status.Usage → source.new ≡ source.old }
@@ -60,18 +53,10 @@ pub fn forder<R: Threads + Wait + Sync, S: Source, K: Sink, G: Gate + Sync>(
 /// `Usage`, and nothing is read.
 pub fn plain<S: Source, K: Sink>(alloc: Global, words: &Words, source: &mut S, out: &mut K) -> Ended
     // The status, the history and what was written are those of a verdict whose causes hold.
-    ensures answer { IsAnswer
-        (asked_of false words.now S.left S.ended S.faults source.old source.new)
-        (told_of K.held K.faults out.old out.new)
-        result.status (events_of result.history) }
+    ensures answer { IsAnswer (asked_of S.Source false words.now source.old source.new) (told_of K.Sink out.old out.new) result.status (events_of result.history) }
 
     // A well-typed program that nothing hinders is printed or run.
-    ensures complete { IsUnhindered
-        (asked_of false words.now S.left S.ended S.faults source.old source.new)
-        (told_of K.held K.faults out.old out.new)
-        → IsFree
-        (asked_of false words.now S.left S.ended S.faults source.old source.new)
-        result.status }
+    ensures complete { IsComplete (asked_of S.Source false words.now source.old source.new) (told_of K.Sink out.old out.new) result.status }
 
     // With other words nothing is read.
     ensures usage { result.status ≡ status.Usage → source.new ≡ source.old }
@@ -84,7 +69,7 @@ pub fn plain<S: Source, K: Sink>(alloc: Global, words: &Words, source: &mut S, o
 
 /// Writes the text that is due, and tells how the call ended.
 fn told<K: Sink>(outcome: Outcome, out: &mut K) -> Ended
-    ensures { IsEnding outcome (told_of K.held K.faults out.old out.new) result }
+    ensures { IsEnding outcome (told_of K.Sink out.old out.new) result }
 {
     match outcome.write(out) {
         Wrote::All => Ended {

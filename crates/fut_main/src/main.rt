@@ -24,8 +24,8 @@ use std::thread::Threads;
 /// Does what the process's words ask for, over this source and this sink. Which words those are the outside decides.
 fn answer<R: Env + AllocGlobal + Threads + Wait + Sync, S: Source, K: Sink>(rt: &R, source: &mut S, out: &mut K) -> ExitCode
     ensures { (line : Line) × EndsWith line
-        (λ words. asked_of true words S.left S.ended S.faults source.old source.new)
-        (told_of K.held K.faults out.old out.new)
+        (λ words. asked_of S.Source true words source.old source.new)
+        (told_of K.Sink out.old out.new)
         (exit_status result) }
 {
     carry_out(rt, rt.alloc(), env::args(rt), source, out, &FreeGate)
