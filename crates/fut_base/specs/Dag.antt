@@ -2,6 +2,7 @@
 use Rattle.std.specs.Prelude.{◌≡◌, ℕ, ◌==◌, Bool, true, false, ◌&&◌, if◌then◌else◌, List, [], ◌∷◌, ◌++◌, reverse, filter_map, Option, Some, None, option_map, ◌⊎◌}
 use Rattle.fut_base.specs.Events.{Event, Action, Reads, Writes, Spawns, Creates, Syncs, Gets, Ends}
 
+-- an action with which a task ends
 abbrev pub ends : Action → Bool
 ends (Ends _) = true
 ends _ = false
@@ -36,6 +37,7 @@ edges_by past task from (Syncs strand) = (from, strand) ∷ joins past (block_of
 edges_by past task from (Gets future _ strand) = (from, strand) ∷ joins past (future ∷ []) strand
 edges_by past task from (Ends _) = []
 
+-- the edges that all these events make, those of the first event first
 abbrev pub edges_past : List Event → List (ℕ × ℕ)
 edges_past [] = []
 edges_past (e ∷ past) = edges_past past ++ edges_by past e.task e.strand e.action

@@ -8,6 +8,7 @@ use Rattle.fut_base.specs.declared.record.Entry.{Entry}
 use Rattle.fut_base.specs.declared.record.Act.{Act}
 use Rattle.fut_base.specs.declared.record.Act.TheVariants.{Read, Write, Spawn, Create, Sync, Get, End}
 
+-- what a task did, without the room of its argument list
 abbrev pub action_of : Act → Action
 action_of (Read cell value) = Reads cell value
 action_of (Write cell value) = Writes cell value
@@ -17,6 +18,7 @@ action_of (Sync strand) = Syncs strand
 action_of (Get future value strand) = Gets future value strand
 action_of (End value) = Ends value
 
+-- an entry without that room
 abbrev pub event_of : Entry → Event
 event_of e = record { task = e.task; strand = e.strand; action = action_of e.act }
 
@@ -24,6 +26,7 @@ event_of e = record { task = e.task; strand = e.strand; action = action_of e.act
 abbrev pub events_of : Listed Entry → List Event
 events_of h = map event_of h.items
 
+-- an action that is no access of a cell
 abbrev pub structural : Action → Bool
 structural (Reads _ _) = false
 structural (Writes _ _) = false

@@ -10,4 +10,5 @@ EdgesRise = (past : List Event) → IsSoundPast past → (a b : ℕ) → Among (
 
 -- a further event leads to no strand that was there
 abbrev pub PathsStay : Type 0
-PathsStay = (past : List Event) (e : Event) → IsSoundPast (e ∷ past) → (u v : ℕ) → v < next_strand past → ReachesBy (edges_past (e ∷ past)) u v → ReachesBy (edges_past past) u v
+PathsStay = (past : List Event) (e : Event) → IsSoundPast (e ∷ past) → (u v : ℕ) → v < next_strand past
+    → ReachesBy (edges_past (e ∷ past)) u v → ReachesBy (edges_past past) u v

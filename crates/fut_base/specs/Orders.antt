@@ -9,6 +9,7 @@ abbrev pub put_after : ℕ → List ℕ → List ℕ → List ℕ
 put_after x items [] = []
 put_after x items (z ∷ zs) = z ∷ (if z == x then items ++ zs else put_after x items zs)
 
+-- x is one of the list
 abbrev pub is_in : ℕ → List ℕ → Bool
 is_in x xs = list_any (λ y. y == x) xs
 
@@ -17,6 +18,7 @@ abbrev pub stands_before : ℕ → ℕ → List ℕ → Bool
 stands_before x y [] = false
 stands_before x y (z ∷ zs) = if z == x then is_in y zs else (not (z == y) && stands_before x y zs)
 
+-- the english order after an action from the strand `at`
 abbrev pub english_by : ℕ → Action → List ℕ → List ℕ
 english_by at (Spawns _ _ kid cont _) xs = put_after at (kid ∷ cont ∷ []) xs
 english_by at (Creates _ _ kid cont _) xs = put_after at (kid ∷ cont ∷ []) xs
@@ -34,6 +36,7 @@ abbrev pub first_last : List Event → List ℕ → ℕ → ℕ
 first_last past [] at = at
 first_last past (child ∷ _) at = unwrap_or (last_of past child) at
 
+-- the hebrew order after an action of a task from the strand `at`
 abbrev pub hebrew_by : List Event → ℕ → ℕ → Action → List ℕ → List ℕ
 hebrew_by past task at (Spawns _ _ kid cont _) xs = put_after at (cont ∷ kid ∷ []) xs
 hebrew_by past task at (Creates _ _ kid cont _) xs = put_after at (cont ∷ kid ∷ []) xs
@@ -46,12 +49,15 @@ abbrev pub hebrew_past : List Event → List ℕ
 hebrew_past [] = 0 ∷ []
 hebrew_past (e ∷ past) = hebrew_by past e.task e.strand e.action (hebrew_past past)
 
+-- the english order of the strands of a structure
 abbrev pub english_of : List Event → List ℕ
 english_of s = english_past (reverse s)
 
+-- the hebrew order of the strands of a structure
 abbrev pub hebrew_of : List Event → List ℕ
 hebrew_of s = hebrew_past (reverse s)
 
+-- u stands before v in both orders
 abbrev pub precedes_past : List Event → ℕ → ℕ → Bool
 precedes_past past u v = stands_before u v (english_past past) && stands_before u v (hebrew_past past)
 

@@ -10,6 +10,7 @@ IsAccess c (Reads cell _) = cell ≡ c
 IsAccess c (Writes cell _) = cell ≡ c
 IsAccess c _ = ⊥
 
+-- a write of some cell
 abbrev pub IsWrite : Action → Type 0
 IsWrite (Writes _ _) = Unit {0}
 IsWrite _ = ⊥
@@ -32,6 +33,7 @@ pub record IsFirstPair (h : List Event) (c i j : ℕ) : Type 0 where
   pub least : (m n : ℕ) → PlacesRace h c m n → j ≤ n
   pub greatest : (m : ℕ) → PlacesRace h c m j → m ≤ i
 
+-- the cells of the races rise
 abbrev pub AreRising : List Race → Type 0
 AreRising [] = Unit {0}
 AreRising (r ∷ rs) = All (λ s. r.cell < s.cell) rs × AreRising rs

@@ -8,6 +8,7 @@ use Rattle.fut_base.specs.Orders.{english_of, hebrew_of, precedes}
 use Rattle.fut_base.specs.Sound.{IsSound}
 use Rattle.fut_base.specs.Tables.{table_of}
 
+-- an event of a task on a strand
 abbrev pub ev : ℕ → ℕ → Action → Event
 ev task strand action = record { task = task; strand = strand; action = action }
 
@@ -64,6 +65,7 @@ pub record SpawnRow : Type 0 where
   pub not_joined : AreJoined spawn_run 1 2 → ⊥
   pub races : PlacesRace spawn_run 0 1 3
 
+-- what holds of the next three runs
 pub record OtherRows : Type 0 where
   pub after_sync : PlacesRace sync_run 0 1 4 → ⊥
   pub future : PlacesRace future_run 0 1 4
@@ -71,6 +73,7 @@ pub record OtherRows : Type 0 where
   pub chain : Reaches chain_run 1 6
   pub sound : IsSound (structure_of chain_run)
 
+-- the tables of the strands of the chain
 pub record TableRow : Type 0 where
   pub one : table_of (structure_of chain_run) 1 ≡ 0 ∷ []
   pub two : table_of (structure_of chain_run) 2 ≡ []

@@ -17,6 +17,7 @@ maximal past own us =
     let others = filter (λ u. not (home_of past u == own)) us in
     once_each (filter (λ u. not (list_any (λ w. (home_of past w == home_of past u) && precedes_past past u w) others)) others)
 
+-- the last strands of those of these tasks that have ended
 abbrev pub lasts_of : List Event → List ℕ → List ℕ
 lasts_of past tasks = filter_map (λ t. last_of past t) tasks
 
@@ -30,9 +31,11 @@ table_by past old e (Gets future _ strand) v =
     if v == strand then maximal past (future_of past e.task) (old e.strand ++ flat_map (λ l. l ∷ old l) (lasts_of past (future ∷ []))) else old v
 table_by past old e _ v = old v
 
+-- the table of a strand after all these events
 abbrev pub table_past : List Event → ℕ → List ℕ
 table_past [] v = []
 table_past (e ∷ past) v = table_by past (table_past past) e e.action v
 
+-- the table of a strand in a structure
 abbrev pub table_of : List Event → ℕ → List ℕ
 table_of s v = table_past (reverse s) v

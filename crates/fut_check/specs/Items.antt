@@ -83,6 +83,7 @@ items_faults globals before n [] = fault_if (not (has_main globals)) n rule.NoMa
 items_faults globals before n (i ∷ is) =
     item_faults globals before n i ++ items_faults globals (before ++ i ∷ []) (n + item_width i) is
 
+-- the items of a program, in order
 abbrev pub items_of : Program → List Item
 items_of P = P.first ∷ P.others
 

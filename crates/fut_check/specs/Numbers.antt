@@ -3,6 +3,7 @@ use Rattle.std.specs.Prelude.{Bool, true, ◌&&◌, nat_le, List, [], ◌∷◌}
 use Rattle.fut_syntax.specs.Trees.{Expr, Alone, Pair, Operand, Signed, Primary, Literal, Name, Bracket, Init, GetOf, CreateOf, Index, Value, Stmt, Declare, Define, Assign, Store, SpawnOf, SyncAll, If', While', Return', Block, Done, Then, Tail, NoElse, ElseOf, Item, CellsOf, TaskOf, Program}
 use Rattle.fut_check.specs.Items.{items_of}
 
+-- the numbers of an expression fit
 abbrev mutual
   pub expr_fits : Expr → Bool
   expr_fits (Alone x) = operand_fits x
@@ -16,16 +17,19 @@ abbrev mutual
   primary_fits (Name w) = true
   primary_fits (Bracket e) = expr_fits e
 
+-- so do those of each
 abbrev pub each_fits : List Expr → Bool
 each_fits [] = true
 each_fits (e ∷ es) = expr_fits e && each_fits es
 
+-- so do those of what a variable is set to
 abbrev pub init_fits : Init → Bool
 init_fits (GetOf w) = true
 init_fits (CreateOf w es) = each_fits es
 init_fits (Index w e) = expr_fits e
 init_fits (Value e) = expr_fits e
 
+-- so do those of a statement, a block and another branch
 abbrev mutual
   pub stmt_fits : Stmt → Bool
   stmt_fits (Declare w v) = true

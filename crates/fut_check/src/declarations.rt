@@ -62,7 +62,8 @@ pub fn walk_type(search: &mut Search, written: &VarType)
 #[tactic(auto, using(fut_rules::proofs::Least::least_append))]
 pub fn note_declared(search: &mut Search, items: &[Item], scope: &Scope, word: &[u8], kind: Kind)
     requires { search.old.at < search.old.end }
-    ensures { let x : Variable = record { name = word.now; kind = kind } in Walked search.old search.new 0 (spec.declared_faults (items_tree items.now) scope.now.declared search.old.at x) }
+    ensures { let x : Variable = record { name = word.now; kind = kind } in Walked search.old search.new 0
+        (spec.declared_faults (items_tree items.now) scope.now.declared search.old.at x) }
 {
     let at = search.at();
     let doubled = is_named(scope.declared(), word) || declares(items, word);

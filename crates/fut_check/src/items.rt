@@ -46,7 +46,9 @@ fn is_over(scope: &Scope, kind: Kind) -> bool
 #[tactic(auto, using(fut_rules::proofs::Least::least_append))]
 fn note_param(search: &mut Search, items: &[Item], scope: &Scope, word: &[u8], kind: Kind)
     requires { search.old.at < search.old.end }
-    ensures { let x : Variable = record { name = word.now; kind = kind } in Walked search.old search.new 0 (declared_faults (items_tree items.now) scope.now.declared search.old.at x ++ fault_if (spec.is_over scope.now.declared kind) search.old.at ConstantLimit) }
+    ensures { let x : Variable = record { name = word.now; kind = kind } in Walked search.old search.new 0
+        (declared_faults (items_tree items.now) scope.now.declared search.old.at x
+        ++ fault_if (spec.is_over scope.now.declared kind) search.old.at ConstantLimit) }
 {
     let name = search.at();
     note_declared(search, items, scope, word, kind);
@@ -56,7 +58,8 @@ fn note_param(search: &mut Search, items: &[Item], scope: &Scope, word: &[u8], k
 /// Goes over a parameter and the comma or the closing bracket behind it.
 fn walk_param(search: &mut Search, items: &[Item], scope: &Scope, param: &Param)
     requires { search.old.at + param_width (param_tree param.now) ≤ search.old.end }
-    ensures { Walked search.old search.new (param_width (param_tree param.now)) (spec.param_faults (items_tree items.now) scope.now.declared search.old.at (param_tree param.now)) }
+    ensures { Walked search.old search.new (param_width (param_tree param.now))
+        (spec.param_faults (items_tree items.now) scope.now.declared search.old.at (param_tree param.now)) }
 {
     note_param(
         search,
@@ -86,7 +89,9 @@ fn walk_each_param(
     params: &[Param],
 ) -> Result<(), NoMemory>
     requires { search.old.at + each_param_width (params_tree params.now) ≤ search.old.end }
-    ensures { IfOk result (λ _. Passed search.old search.new (each_param_width (params_tree params.now)) (spec.params_faults (items_tree items.now) scope.old.declared search.old.at (params_tree params.now)) scope.new (spec.with_params scope.old (params_tree params.now))) }
+    ensures { IfOk result (λ _. Passed search.old search.new (each_param_width (params_tree params.now))
+        (spec.params_faults (items_tree items.now) scope.old.declared search.old.at (params_tree params.now)) scope.new
+        (spec.with_params scope.old (params_tree params.now))) }
 {
     for param in params {
         walk_param(search, items, scope, param);
@@ -104,7 +109,9 @@ fn walk_params(
     params: &[Param],
 ) -> Result<(), NoMemory>
     requires { search.old.at + params_width (params_tree params.now) ≤ search.old.end }
-    ensures { IfOk result (λ _. Passed search.old search.new (params_width (params_tree params.now)) (spec.params_faults (items_tree items.now) scope.old.declared search.old.at (params_tree params.now)) scope.new (spec.with_params scope.old (params_tree params.now))) }
+    ensures { IfOk result (λ _. Passed search.old search.new (params_width (params_tree params.now))
+        (spec.params_faults (items_tree items.now) scope.old.declared search.old.at (params_tree params.now)) scope.new
+        (spec.with_params scope.old (params_tree params.now))) }
 {
     walk_each_param(alloc, search, items, scope, params)?;
     if params.is_empty() {
@@ -157,7 +164,8 @@ fn walk_body(
     body: &[Stmt],
 ) -> Result<(), NoMemory>
     requires { search.old.at + block_width (block_tree body.now) + 1 ≤ search.old.end }
-    ensures { IfOk result (λ _. Walked search.old search.new (block_width (block_tree body.now) + 1) (spec.body_faults (items_tree items.now) scope.old search.old.at (block_tree body.now))) }
+    ensures { IfOk result (λ _. Walked search.old search.new (block_width (block_tree body.now) + 1)
+        (spec.body_faults (items_tree items.now) scope.old search.old.at (block_tree body.now))) }
 {
     let depth = scope.returns();
     walk_block(alloc, search, items, scope, body)?;
@@ -192,7 +200,9 @@ fn has_main(items: &[Item]) -> bool
 #[tactic(auto, using(fut_rules::proofs::Least::least_append))]
 fn note_task(search: &mut Search, before: &[Item], tasks: usize, word: &[u8])
     requires { search.old.at < search.old.end }
-    ensures { Walked search.old search.new 0 (fault_if (names.declares (items_tree before.now) word.now) search.old.at DoubledName ++ fault_if (nat_eq tasks 256) search.old.at ConstantLimit) }
+    ensures { Walked search.old search.new 0
+        (fault_if (names.declares (items_tree before.now) word.now) search.old.at DoubledName
+        ++ fault_if (nat_eq tasks 256) search.old.at ConstantLimit) }
 {
     let name = search.at();
     search.note_if(declares(before, word), name, Rule::DoubledName);
@@ -229,7 +239,9 @@ fn walk_head(
 ) -> Result<Scope, NoMemory>
     requires room { search.old.at + 3 + params_width (params_tree params.now) + depth + 2 ≤ search.old.end }
     requires tasks { tasks ≡ names.tasks (items_tree before.now) }
-    ensures { IfOk result (λ scope. Passed search.old search.new (3 + params_width (params_tree params.now) + depth + 2) (spec.head_faults (items_tree items.now) (items_tree before.now) search.old.at word.now (params_tree params.now) depth) scope (spec.opening_scope depth (params_tree params.now))) }
+    ensures { IfOk result (λ scope. Passed search.old search.new (3 + params_width (params_tree params.now) + depth + 2)
+        (spec.head_faults (items_tree items.now) (items_tree before.now) search.old.at word.now
+        (params_tree params.now) depth) scope (spec.opening_scope depth (params_tree params.now))) }
 {
     search.skip(1);
     note_task(search, before, tasks, word);
@@ -257,7 +269,10 @@ fn walk_task(
 ) -> Result<(), NoMemory>
     requires room { search.old.at + item_width (trees.TaskOf word.now (params_tree params.now) depth (block_tree body.now)) ≤ search.old.end }
     requires tasks { tasks ≡ names.tasks (items_tree before.now) }
-    ensures { IfOk result (λ _. Walked search.old search.new (item_width (trees.TaskOf word.now (params_tree params.now) depth (block_tree body.now))) (spec.item_faults (items_tree items.now) (items_tree before.now) search.old.at (trees.TaskOf word.now (params_tree params.now) depth (block_tree body.now)))) }
+    ensures { IfOk result (λ _. Walked search.old search.new
+        (item_width (trees.TaskOf word.now (params_tree params.now) depth (block_tree body.now)))
+        (spec.item_faults (items_tree items.now) (items_tree before.now) search.old.at
+        (trees.TaskOf word.now (params_tree params.now) depth (block_tree body.now)))) }
 {
     let mut scope = walk_head(alloc, search, items, before, tasks, word, params, depth)?;
     walk_body(alloc, search, items, &mut scope, body)?;
@@ -326,7 +341,8 @@ fn walk_item(
 ) -> Result<(), NoMemory>
     requires room { search.old.at + item_width (item_tree item.now) ≤ search.old.end }
     requires counts { AreCounts (items_tree before.now) counts }
-    ensures { IfOk result (λ _. Walked search.old search.new (item_width (item_tree item.now)) (spec.item_faults (items_tree items.now) (items_tree before.now) search.old.at (item_tree item.now))) }
+    ensures { IfOk result (λ _. Walked search.old search.new (item_width (item_tree item.now))
+        (spec.item_faults (items_tree items.now) (items_tree before.now) search.old.at (item_tree item.now))) }
 {
     match item {
         Item::Cells(word, length) => {
@@ -357,7 +373,8 @@ fn walk_item(
 /// Goes over all items and the end token.
 pub fn walk_items(alloc: Global, search: &mut Search, items: &[Item]) -> Result<(), NoMemory>
     requires { search.old.at + items_width (items_tree items.now) < search.old.end }
-    ensures { IfOk result (λ _. Walked search.old search.new (items_width (items_tree items.now)) (spec.items_faults (items_tree items.now) [] search.old.at (items_tree items.now))) }
+    ensures { IfOk result (λ _. Walked search.old search.new (items_width (items_tree items.now))
+        (spec.items_faults (items_tree items.now) [] search.old.at (items_tree items.now))) }
 {
     let mut counts = Counts { tasks: 0, cells: 0 };
     let _start = search.at();

@@ -79,7 +79,8 @@ fn element_need(items: &[Item], scope: &Scope, word: &[u8]) -> Option<Need>
 #[tactic(auto, using(fut_rules::proofs::Least::least_append))]
 fn walk_declare(search: &mut Search, items: &[Item], scope: &Scope, word: &[u8], written: &VarType)
     requires { search.old.at + stmt_width (trees.Declare word.now (type_tree written.now)) ≤ search.old.end }
-    ensures { Walked search.old search.new (stmt_width (trees.Declare word.now (type_tree written.now))) (spec.stmt_faults (items_tree items.now) scope.now search.old.at (trees.Declare word.now (type_tree written.now))) }
+    ensures { Walked search.old search.new (stmt_width (trees.Declare word.now (type_tree written.now)))
+        (spec.stmt_faults (items_tree items.now) scope.now search.old.at (trees.Declare word.now (type_tree written.now))) }
 {
     let kind = kind_of(written);
     search.skip(1);
@@ -102,7 +103,9 @@ fn walk_define(
     value: &Init,
 )
     requires { search.old.at + stmt_width (trees.Define word.now (type_tree written.now) (init_tree value.now)) ≤ search.old.end }
-    ensures { Walked search.old search.new (stmt_width (trees.Define word.now (type_tree written.now) (init_tree value.now))) (spec.stmt_faults (items_tree items.now) scope.now search.old.at (trees.Define word.now (type_tree written.now) (init_tree value.now))) }
+    ensures { Walked search.old search.new (stmt_width (trees.Define word.now (type_tree written.now) (init_tree value.now)))
+        (spec.stmt_faults (items_tree items.now) scope.now search.old.at
+        (trees.Define word.now (type_tree written.now) (init_tree value.now))) }
 {
     let kind = kind_of(written);
     search.skip(1);
@@ -124,7 +127,8 @@ fn walk_define(
 #[tactic(auto, using(fut_rules::proofs::Least::least_append))]
 fn walk_assign(search: &mut Search, items: &[Item], scope: &Scope, word: &[u8], value: &Init)
     requires { search.old.at + stmt_width (trees.Assign word.now (init_tree value.now)) ≤ search.old.end }
-    ensures { Walked search.old search.new (stmt_width (trees.Assign word.now (init_tree value.now))) (spec.stmt_faults (items_tree items.now) scope.now search.old.at (trees.Assign word.now (init_tree value.now))) }
+    ensures { Walked search.old search.new (stmt_width (trees.Assign word.now (init_tree value.now)))
+        (spec.stmt_faults (items_tree items.now) scope.now search.old.at (trees.Assign word.now (init_tree value.now))) }
 {
     note_assigned(search, scope, word);
     search.skip(2);
@@ -149,7 +153,9 @@ fn walk_store(
     value: &Expr,
 )
     requires { search.old.at + stmt_width (trees.Store word.now (expr_tree index.now) (expr_tree value.now)) ≤ search.old.end }
-    ensures { Walked search.old search.new (stmt_width (trees.Store word.now (expr_tree index.now) (expr_tree value.now))) (spec.stmt_faults (items_tree items.now) scope.now search.old.at (trees.Store word.now (expr_tree index.now) (expr_tree value.now))) }
+    ensures { Walked search.old search.new (stmt_width (trees.Store word.now (expr_tree index.now) (expr_tree value.now)))
+        (spec.stmt_faults (items_tree items.now) scope.now search.old.at
+        (trees.Store word.now (expr_tree index.now) (expr_tree value.now))) }
 {
     note_element(search, items, scope.visible(), word);
     search.skip(2);
@@ -168,7 +174,8 @@ fn walk_store(
 #[tactic(auto, using(fut_rules::proofs::Least::least_append))]
 fn walk_spawn(search: &mut Search, items: &[Item], scope: &Scope, word: &[u8], args: &[Expr])
     requires { search.old.at + stmt_width (trees.SpawnOf word.now (args_tree args.now)) ≤ search.old.end }
-    ensures { Walked search.old search.new (stmt_width (trees.SpawnOf word.now (args_tree args.now))) (spec.stmt_faults (items_tree items.now) scope.now search.old.at (trees.SpawnOf word.now (args_tree args.now))) }
+    ensures { Walked search.old search.new (stmt_width (trees.SpawnOf word.now (args_tree args.now)))
+        (spec.stmt_faults (items_tree items.now) scope.now search.old.at (trees.SpawnOf word.now (args_tree args.now))) }
 {
     search.skip(1);
     walk_call(search, items, scope.visible(), word, args);
@@ -179,7 +186,8 @@ fn walk_spawn(search: &mut Search, items: &[Item], scope: &Scope, word: &[u8], a
 #[tactic(auto, using(fut_rules::proofs::Least::least_append))]
 fn walk_test(search: &mut Search, scope: &Scope, test: &Expr)
     requires { search.old.at + 1 + expr_width (expr_tree test.now) + 1 ≤ search.old.end }
-    ensures { Walked search.old search.new (1 + expr_width (expr_tree test.now) + 1) (needed_faults scope.now.visible (search.old.at + 1) for_int (expr_tree test.now)) }
+    ensures { Walked search.old search.new (1 + expr_width (expr_tree test.now) + 1)
+        (needed_faults scope.now.visible (search.old.at + 1) for_int (expr_tree test.now)) }
 {
     search.skip(1);
     walk_needed(search, scope.visible(), Some(Need::Int), test);
@@ -190,7 +198,8 @@ fn walk_test(search: &mut Search, scope: &Scope, test: &Expr)
 #[tactic(auto, using(fut_rules::proofs::Least::least_append, fut_rules::proofs::Some::expr_some))]
 fn walk_return(search: &mut Search, items: &[Item], scope: &Scope, value: &Expr)
     requires { search.old.at + stmt_width (trees.Return' (expr_tree value.now)) ≤ search.old.end }
-    ensures { Walked search.old search.new (stmt_width (trees.Return' (expr_tree value.now))) (spec.stmt_faults (items_tree items.now) scope.now search.old.at (trees.Return' (expr_tree value.now))) }
+    ensures { Walked search.old search.new (stmt_width (trees.Return' (expr_tree value.now)))
+        (spec.stmt_faults (items_tree items.now) scope.now search.old.at (trees.Return' (expr_tree value.now))) }
 {
     search.skip(1);
     let first = search.at();
@@ -212,7 +221,9 @@ fn walk_stmt(
     stmt: &Stmt,
 ) -> Result<(), NoMemory>
     requires { search.old.at + stmt_width (stmt_tree stmt.now) ≤ search.old.end }
-    ensures { IfOk result (λ _. Passed search.old search.new (stmt_width (stmt_tree stmt.now)) (spec.stmt_faults (items_tree items.now) scope.old search.old.at (stmt_tree stmt.now)) scope.new (spec.scope_after scope.old (stmt_tree stmt.now))) }
+    ensures { IfOk result (λ _. Passed search.old search.new (stmt_width (stmt_tree stmt.now))
+        (spec.stmt_faults (items_tree items.now) scope.old search.old.at (stmt_tree stmt.now)) scope.new
+        (spec.scope_after scope.old (stmt_tree stmt.now))) }
 {
     match stmt {
         Stmt::Declare(word, written) => {
@@ -269,7 +280,9 @@ fn walk_tail(
     tail: &Tail,
 ) -> Result<(), NoMemory>
     requires { search.old.at + tail_width (tail_tree tail.now) ≤ search.old.end }
-    ensures { IfOk result (λ _. Passed search.old search.new (tail_width (tail_tree tail.now)) (spec.tail_faults (items_tree items.now) scope.old search.old.at (tail_tree tail.now)) scope.new (spec.with_declared scope.old (spec.declared_in_tail (tail_tree tail.now)))) }
+    ensures { IfOk result (λ _. Passed search.old search.new (tail_width (tail_tree tail.now))
+        (spec.tail_faults (items_tree items.now) scope.old search.old.at (tail_tree tail.now)) scope.new
+        (spec.with_declared scope.old (spec.declared_in_tail (tail_tree tail.now)))) }
 {
     match tail {
         Tail::None => Ok(()),
@@ -292,7 +305,9 @@ pub fn walk_block(
     stmts: &[Stmt],
 ) -> Result<(), NoMemory>
     requires { search.old.at + block_width (block_tree stmts.now) ≤ search.old.end }
-    ensures { IfOk result (λ _. Passed search.old search.new (block_width (block_tree stmts.now)) (spec.block_faults (items_tree items.now) scope.old search.old.at (block_tree stmts.now)) scope.new (spec.with_declared scope.old (spec.declared_in_block (block_tree stmts.now)))) }
+    ensures { IfOk result (λ _. Passed search.old search.new (block_width (block_tree stmts.now))
+        (spec.block_faults (items_tree items.now) scope.old search.old.at (block_tree stmts.now)) scope.new
+        (spec.with_declared scope.old (spec.declared_in_block (block_tree stmts.now)))) }
 {
     let count = scope.visible().len();
     for stmt in stmts {

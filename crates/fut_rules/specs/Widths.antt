@@ -2,11 +2,13 @@
 use Rattle.std.specs.Prelude.{ℕ, ◌+◌, List, [], ◌∷◌}
 use Rattle.fut_syntax.specs.Trees.{Sign, NoSign, Negative, Inverted, Expr, Alone, Pair, Operand, Signed, Primary, Literal, Name, Bracket, Init, GetOf, CreateOf, Index, Value, VarType, Plain, Array, Stmt, Declare, Define, Assign, Store, SpawnOf, SyncAll, If', While', Return', Block, Done, Then, Tail, NoElse, ElseOf, Param, Item, CellsOf, TaskOf}
 
+-- of a sign
 abbrev pub sign_width : Sign → ℕ
 sign_width NoSign = 0
 sign_width Negative = 1
 sign_width Inverted = 1
 
+-- of an expression and its parts
 abbrev mutual
   pub expr_width : Expr → ℕ
   expr_width (Alone x) = operand_width x
@@ -34,16 +36,19 @@ args_width (e ∷ es) = each_width (e ∷ es)
 abbrev pub call_width : List Expr → ℕ
 call_width es = 2 + args_width es
 
+-- of what a variable is set to
 abbrev pub init_width : Init → ℕ
 init_width (GetOf w) = 2
 init_width (CreateOf w es) = 1 + call_width es
 init_width (Index w e) = 2 + expr_width e + 1
 init_width (Value e) = expr_width e
 
+-- of a type
 abbrev pub type_width : VarType → ℕ
 type_width (Plain d) = d + 1
 type_width (Array d n) = d + 4
 
+-- of a statement, a block and another branch
 abbrev mutual
   pub stmt_width : Stmt → ℕ
   stmt_width (Declare w v) = 3 + type_width v + 1
@@ -69,6 +74,7 @@ abbrev mutual
 abbrev pub param_width : Param → ℕ
 param_width p = 2 + type_width p.type + 1
 
+-- of parameters, without their commas
 abbrev pub each_param_width : List Param → ℕ
 each_param_width [] = 0
 each_param_width (p ∷ ps) = param_width p + each_param_width ps
@@ -78,10 +84,12 @@ abbrev pub params_width : List Param → ℕ
 params_width [] = 1
 params_width (p ∷ ps) = each_param_width (p ∷ ps)
 
+-- of an item
 abbrev pub item_width : Item → ℕ
 item_width (CellsOf w n) = 6
 item_width (TaskOf w ps d b) = 3 + params_width ps + d + 2 + block_width b + 1
 
+-- of items
 abbrev pub items_width : List Item → ℕ
 items_width [] = 0
 items_width (i ∷ is) = item_width i + items_width is

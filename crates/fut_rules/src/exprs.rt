@@ -83,7 +83,8 @@ pub fn walk_expr(search: &mut Search, variables: &[Variable], expr: &Expr)
 #[cycle(walks)]
 fn walk_operand(search: &mut Search, variables: &[Variable], operand: &Operand)
     requires { search.old.at + operand_width (operand_tree operand.now) ≤ search.old.end }
-    ensures { Walked search.old search.new (operand_width (operand_tree operand.now)) (spec.operand_faults variables.now search.old.at (operand_tree operand.now)) }
+    ensures { Walked search.old search.new (operand_width (operand_tree operand.now))
+        (spec.operand_faults variables.now search.old.at (operand_tree operand.now)) }
 {
     match operand {
         Operand::Signed(Sign::None, primary) => walk_primary(search, variables, primary),
@@ -97,7 +98,9 @@ fn walk_operand(search: &mut Search, variables: &[Variable], operand: &Operand)
 #[tactic(auto, using(crate::proofs::Least::least_append, crate::proofs::Some::primary_some))]
 fn walk_signed(search: &mut Search, variables: &[Variable], primary: &Primary)
     requires { search.old.at + 1 + primary_width (primary_tree primary.now) ≤ search.old.end }
-    ensures { Walked search.old search.new (1 + primary_width (primary_tree primary.now)) (spec.primary_faults variables.now (search.old.at + 1) (primary_tree primary.now) ++ broken (unmet spec.for_int (spec.primary_kind variables.now (primary_tree primary.now))) (search.old.at + 1)) }
+    ensures { Walked search.old search.new (1 + primary_width (primary_tree primary.now))
+        (spec.primary_faults variables.now (search.old.at + 1) (primary_tree primary.now)
+        ++ broken (unmet spec.for_int (spec.primary_kind variables.now (primary_tree primary.now))) (search.old.at + 1)) }
 {
     search.skip(1);
     let first = search.at();
@@ -112,7 +115,8 @@ fn walk_signed(search: &mut Search, variables: &[Variable], primary: &Primary)
 #[tactic(auto, using(crate::proofs::Least::least_append, fut_syntax::proofs::Made::bracket_tree))]
 fn walk_primary(search: &mut Search, variables: &[Variable], primary: &Primary)
     requires { search.old.at + primary_width (primary_tree primary.now) ≤ search.old.end }
-    ensures { Walked search.old search.new (primary_width (primary_tree primary.now)) (spec.primary_faults variables.now search.old.at (primary_tree primary.now)) }
+    ensures { Walked search.old search.new (primary_width (primary_tree primary.now))
+        (spec.primary_faults variables.now search.old.at (primary_tree primary.now)) }
 {
     match primary {
         Primary::Number(_) => search.skip(1),

@@ -45,7 +45,9 @@ fn element_rule(kind: Option<Kind>, is_cells: bool) -> Option<Rule>
 /// Notes what is wrong with the word before `[` at the next token.
 pub fn note_element(search: &mut Search, items: &[Item], variables: &[Variable], word: &[u8])
     requires { search.old.at < search.old.end }
-    ensures { Walked search.old search.new 0 (broken (names.element_rule (names.kind_named variables.now word.now) (names.means_cells (declaration (items_tree items.now) word.now))) search.old.at) }
+    ensures { Walked search.old search.new 0
+        (broken (names.element_rule (names.kind_named variables.now word.now)
+        (names.means_cells (declaration (items_tree items.now) word.now))) search.old.at) }
 {
     let kind = kind_named(variables, word);
     let is_cells = means_cells(items, word);
@@ -77,7 +79,8 @@ fn later(parameters: &[Param]) -> &[Param]
 #[tactic(auto, using(crate::proofs::Least::least_append))]
 fn walk_args(search: &mut Search, variables: &[Variable], parameters: &[Param], args: &[Expr])
     requires { search.old.at + each_width (args_tree args.now) ≤ search.old.end }
-    ensures { Walked search.old search.new (each_width (args_tree args.now)) (spec.args_faults variables.now search.old.at (params_tree parameters.now) (args_tree args.now)) }
+    ensures { Walked search.old search.new (each_width (args_tree args.now))
+        (spec.args_faults variables.now search.old.at (params_tree parameters.now) (args_tree args.now)) }
 {
     let mut left = parameters;
     for arg in args {
@@ -97,7 +100,8 @@ pub fn walk_call(
     args: &[Expr],
 )
     requires { search.old.at + call_width (args_tree args.now) ≤ search.old.end }
-    ensures { Walked search.old search.new (call_width (args_tree args.now)) (spec.call_faults (items_tree items.now) variables.now search.old.at word.now (args_tree args.now)) }
+    ensures { Walked search.old search.new (call_width (args_tree args.now))
+        (spec.call_faults (items_tree items.now) variables.now search.old.at word.now (args_tree args.now)) }
 {
     let first = search.at();
     let (rule, parameters) = called(items, word, args.len());
@@ -177,7 +181,8 @@ fn init_kind(items: &[Item], variables: &[Variable], init: &Init) -> Option<Kind
 #[tactic(auto, using(crate::proofs::Least::least_append))]
 fn walk_inside(search: &mut Search, items: &[Item], variables: &[Variable], init: &Init)
     requires { search.old.at + init_width (init_tree init.now) ≤ search.old.end }
-    ensures { Walked search.old search.new (init_width (init_tree init.now)) (spec.inner_faults (items_tree items.now) variables.now search.old.at (init_tree init.now)) }
+    ensures { Walked search.old search.new (init_width (init_tree init.now))
+        (spec.inner_faults (items_tree items.now) variables.now search.old.at (init_tree init.now)) }
 {
     match init {
         Init::Get(word) => {
@@ -210,7 +215,8 @@ pub fn walk_init(
     init: &Init,
 )
     requires { search.old.at + init_width (init_tree init.now) ≤ search.old.end }
-    ensures { Walked search.old search.new (init_width (init_tree init.now)) (spec.init_faults (items_tree items.now) variables.now search.old.at need (init_tree init.now)) }
+    ensures { Walked search.old search.new (init_width (init_tree init.now))
+        (spec.init_faults (items_tree items.now) variables.now search.old.at need (init_tree init.now)) }
 {
     let first = search.at();
     walk_inside(search, items, variables, init);

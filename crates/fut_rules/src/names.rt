@@ -53,7 +53,8 @@ pub fn item_name(item: &Item) -> &[u8]
 
 /// The first declaration of a global name.
 pub fn declaration<'a>(items: &'a [Item], word: &[u8]) -> Option<&'a Item>
-    ensures { MatchOption result (spec.declaration (items_tree items.now) word.now ≡ None) (λ item. spec.declaration (items_tree items.now) word.now ≡ Some (item_tree item.now)) }
+    ensures { MatchOption result (spec.declaration (items_tree items.now) word.now ≡ None)
+        (λ item. spec.declaration (items_tree items.now) word.now ≡ Some (item_tree item.now)) }
 {
     for item in items {
         if item_name(item) == word {

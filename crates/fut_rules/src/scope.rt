@@ -77,7 +77,12 @@ impl Scope {
     #[tactic(auto, using(crate::proofs::Slots::slots_more))]
     /// Declares a parameter or variable, which is visible from now on.
     pub fn declare(&mut self, alloc: Global, name: &[u8], kind: Kind) -> Result<(), NoMemory>
-        ensures { IfOk result (λ _. let x : Variable = record { name = name.now; kind = kind } in self.new ≡ record { returns = self.old.returns; visible = self.old.visible ++ x ∷ []; declared = self.old.declared ++ x ∷ [] }) }
+        ensures { IfOk result (λ _. let x : Variable = record { name = name.now; kind = kind } in
+            self.new ≡ record {
+              returns = self.old.returns;
+              visible = self.old.visible ++ x ∷ [];
+              declared = self.old.declared ++ x ∷ [];
+            }) }
     {
         self.visible.push(Variable {
             name: Items::from_slice(alloc, name)?,

@@ -5,12 +5,14 @@ use Rattle.fut_tokens.specs.declared.token.Token.TheVariants as t
 use Rattle.fut_syntax.specs.Trees.{Program}
 use Rattle.fut_syntax.specs.Tokens.{program_tokens}
 
+-- an opening bracket
 abbrev pub opens : Token → Bool
 opens t.LeftParen = true
 opens t.LeftBrace = true
 opens t.LeftSquare = true
 opens _ = false
 
+-- a closing bracket
 abbrev pub closes : Token → Bool
 closes t.RightParen = true
 closes t.RightBrace = true
@@ -47,6 +49,7 @@ is_simple (t.Number n) = nat_lt n 2
 is_simple t.Scrap = false
 is_simple _ = true
 
+-- each token of the list is simple
 abbrev pub all_simple : List Token → Bool
 all_simple [] = true
 all_simple (x ∷ xs) = is_simple x && all_simple xs

@@ -59,4 +59,6 @@ ReadsAgain = (p : Program) (r : Result (List Item) TokenFault) → IsWhole (prog
 
 -- the second operator of an expression is a fault
 abbrev pub SecondOperator : Type 0
-SecondOperator = (w : List ℕ) → IsFault (t.Task ∷ t.Word w ∷ t.LeftParen ∷ t.RightParen ∷ t.Int ∷ t.LeftBrace ∷ t.Return ∷ t.Number 1 ∷ t.Plus ∷ t.Number 1 ∷ t.Plus ∷ t.Number 1 ∷ t.Semicolon ∷ t.RightBrace ∷ t.End ∷ []) 4
+SecondOperator = (w : List ℕ)
+    → IsFault (t.Task ∷ t.Word w ∷ t.LeftParen ∷ t.RightParen ∷ t.Int ∷ t.LeftBrace ∷ t.Return ∷ t.Number 1 ∷ t.Plus ∷ t.Number 1
+    ∷ t.Plus ∷ t.Number 1 ∷ t.Semicolon ∷ t.RightBrace ∷ t.End ∷ []) 4

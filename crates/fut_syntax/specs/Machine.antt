@@ -48,11 +48,13 @@ pub data Answer : Type 0 where
   Passes : Answer
   Stops : Answer
 
+-- an answer, with more due behind what it takes
 abbrev pub then_due : Answer → List Symbol → Answer
 then_due (Takes s) k = Takes (s ++ k)
 then_due Passes k = Passes
 then_due Stops k = Stops
 
+-- the rules of the symbols: what each makes of the next token
 abbrev pub primary_rule : Token → Answer
 primary_rule (t.Word w) = Takes []
 primary_rule (t.Number n) = Takes []
@@ -84,6 +86,7 @@ op_of t.Greater = Some Greater
 op_of t.GreaterEqual = Some AtLeast
 op_of _ = None
 
+-- what is due behind an operator
 abbrev pub after_op : Option Op → Answer
 after_op (Some op) = Takes (Operand' ∷ [])
 after_op None = Passes
@@ -202,6 +205,7 @@ abbrev pub equals_rule : Token → Answer
 equals_rule t.Equals = Takes []
 equals_rule _ = Stops
 
+-- what a symbol makes of the next token
 abbrev pub rule : Symbol → Token → Answer
 rule First x = first_rule x
 rule More x = more_rule x
@@ -238,6 +242,7 @@ by_answer (Takes s) k passed = Some (s ++ k)
 by_answer Passes k passed = passed
 by_answer Stops k passed = None
 
+-- what is due after the next token, where it is taken
 abbrev pub next : List Symbol → Token → Option (List Symbol)
 next [] x = None
 next (a ∷ k) x = by_answer (rule a x) k (next k x)
@@ -258,6 +263,7 @@ abbrev pub run_on : Option (List Symbol) → Bool → ℕ → (List Symbol → O
 run_on None full left f = Some left
 run_on (Some s) full left f = cond full (Some left) (f s)
 
+-- how many tokens are left behind the one where the run stops, or none where it stops nowhere
 abbrev pub run : (ℕ → Token → Bool) → (Token → ℕ → ℕ) → List Symbol → ℕ → List Token → Option ℕ
 run full by s d [] = None
 run full by s d (x ∷ xs) = run_on (next s x) (full d x) (length xs) (λ s. run full by s (by x d) xs)

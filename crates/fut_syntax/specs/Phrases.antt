@@ -20,7 +20,8 @@ IsVarInit xs r = (xs ≡ r) ⊎ ((i : Init) × (xs ≡ t.Equals ∷ init_before 
 
 -- a statement behind the word that begins it, but for its semicolon
 abbrev pub IsWordStmt : List Token → List Token → Type 0
-IsWordStmt xs r = ((i : Init) × (xs ≡ t.Equals ∷ init_before i r)) ⊎ ((e f : Expr) × (xs ≡ t.LeftSquare ∷ expr_before e (t.RightSquare ∷ t.Equals ∷ expr_before f r)))
+IsWordStmt xs r = ((i : Init) × (xs ≡ t.Equals ∷ init_before i r))
+    ⊎ ((e f : Expr) × (xs ≡ t.LeftSquare ∷ expr_before e (t.RightSquare ∷ t.Equals ∷ expr_before f r)))
 
 -- xs is a phrase of the symbol and then r
 abbrev pub Phrase : Symbol → List Token → List Token → Type 0

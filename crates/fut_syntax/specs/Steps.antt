@@ -13,14 +13,17 @@ use Rattle.fut_syntax.specs.Trees as trees
 use Rattle.fut_syntax.specs.Trees.{Expr, Block}
 use Rattle.fut_syntax.specs.Views.{op_tree, sign_tree, item_tree, items_tree}
 
+-- the end of the tokens
 abbrev pub is_end : Token → Bool
 is_end t.End = true
 is_end _ = false
 
+-- the first token, which is the end where there is none
 abbrev pub front : List Token → Token
 front [] = t.End
 front (x ∷ xs) = x
 
+-- the tokens behind the first
 abbrev pub behind : List Token → List Token
 behind [] = []
 behind (x ∷ xs) = xs
@@ -51,6 +54,7 @@ pub record Stops (s : List Symbol) (d : ℕ) (xs ys : List Token) (e : Stop) : T
 pub record HaltsAt (a : Symbol) (xs ys : List Token) : Type 0 where
   pub stops : (d : ℕ) (k : List Symbol) → run64 (a ∷ k) d xs ≡ stopped_at ys
 
+-- why reading stops at a symbol: no memory, or no token of it
 abbrev pub StopsAtBy : Symbol → List Token → List Token → Stop → Type 0
 StopsAtBy a xs ys stop.Fault = HaltsAt a xs ys
 StopsAtBy a xs ys stop.NoMemory = Unit {0}
@@ -60,7 +64,8 @@ pub record StopsAt (a : Symbol) (xs ys : List Token) (e : Stop) : Type 0 where
   pub by : StopsAtBy a xs ys e
 
 -- Some symbols were read as a tree and others are due, or the reading stopped. The count of brackets goes from d to d'.
-abbrev pub ReadTo : {X T : Type 0} → List Symbol → List Symbol → (T → List Token → List Token) → (X → T) → ℕ → ℕ → List Token → List Token → Result X Stop → Type 0
+abbrev pub ReadTo : {X T : Type 0} → List Symbol → List Symbol → (T → List Token → List Token) → (X → T) → ℕ → ℕ → List Token
+    → List Token → Result X Stop → Type 0
 ReadTo s s' before tree d d' xs ys (Ok x) = Steps s d xs s' d' ys × (xs ≡ before (tree x) ys)
 ReadTo s s' before tree d d' xs ys (Err e) = Stops s d xs ys e
 
@@ -69,7 +74,8 @@ abbrev pub Read : {X T : Type 0} → Symbol → (T → List Token → List Token
 Read a before tree d xs ys r = ReadTo (a ∷ []) [] before tree d d xs ys r
 
 -- the same of the rest of a tree, before which other tokens were taken and after which others are due
-abbrev pub ReadOn : {X T : Type 0} → (List Token → List Token) → List Symbol → List Symbol → (T → List Token → List Token) → (X → T) → ℕ → List Token → List Token → Result X Stop → Type 0
+abbrev pub ReadOn : {X T : Type 0} → (List Token → List Token) → List Symbol → List Symbol → (T → List Token → List Token)
+    → (X → T) → ℕ → List Token → List Token → Result X Stop → Type 0
 ReadOn taken s s' before tree d xs ys (Ok x) = Steps s d xs s' d ys × (taken xs ≡ before (tree x) ys)
 ReadOn taken s s' before tree d xs ys (Err e) = Stops s d xs ys e
 
@@ -119,9 +125,11 @@ Closed a x xs ys (Err e) = StopsAt a xs ys e
 abbrev pub same : {X : Type 0} → X → X
 same x = x
 
+-- a word, and the tokens behind it
 abbrev pub word_before : List ℕ → List Token → List Token
 word_before w r = t.Word w ∷ r
 
+-- a number, and the tokens behind it
 abbrev pub number_before : ℕ → List Token → List Token
 number_before n r = t.Number n ∷ r
 
@@ -143,6 +151,7 @@ abbrev pub Made : {X T : Type 0} → (X → T) → T → Result X Stop → Type 
 Made tree made (Ok x) = tree x ≡ made
 Made tree made (Err e) = e ≡ stop.NoMemory
 
+-- the end of a block
 abbrev pub is_close : Token → Bool
 is_close t.RightBrace = true
 is_close _ = false
@@ -166,8 +175,10 @@ Parsed xs ys (Err e) = Stops (First ∷ []) 0 xs ys e
 -- the items so far, behind which others may stand
 abbrev pub SpellsMore : List Token → List Token → List Item → Type 0
 SpellsMore xs ys [] = ⊥
-SpellsMore xs ys (i ∷ is) = (rest : List trees.Item) (r : List Token) → ys ≡ items_before rest r → xs ≡ item_before (item_tree i) (items_before (items_tree is ++ rest) r)
+SpellsMore xs ys (i ∷ is) = (rest : List trees.Item) (r : List Token) → ys ≡ items_before rest r
+    → xs ≡ item_before (item_tree i) (items_before (items_tree is ++ rest) r)
 
+-- an equal word, or no memory
 abbrev pub Copied : List ℕ → Result (List ℕ) Stop → Type 0
 Copied w (Ok v) = v ≡ w
 Copied w (Err e) = e ≡ stop.NoMemory

@@ -4,6 +4,7 @@ use Rattle.fut_tokens.specs.declared.token.Token.{Token}
 use Rattle.fut_tokens.specs.declared.token.Token.TheVariants as t
 use Rattle.fut_syntax.specs.Trees.{Sign, NoSign, Negative, Inverted, Op, Add, Subtract, Multiply, Divide, Remainder, BitAnd, BitOr, Equal, Unequal, Less, AtMost, Greater, AtLeast, Expr, Alone, Pair, Operand, Signed, Primary, Literal, Name, Bracket, Init, GetOf, CreateOf, Index, Value, VarType, Plain, Array, Stmt, Declare, Define, Assign, Store, SpawnOf, SyncAll, If', While', Return', Block, Done, Then, Tail, NoElse, ElseOf, Param, Item, CellsOf, TaskOf, Program}
 
+-- the token of an operator
 abbrev pub op_token : Op → Token
 op_token Add = t.Plus
 op_token Subtract = t.Minus
@@ -19,11 +20,13 @@ op_token AtMost = t.LessEqual
 op_token Greater = t.Greater
 op_token AtLeast = t.GreaterEqual
 
+-- the tokens of a sign, and those behind it
 abbrev pub sign_before : Sign → List Token → List Token
 sign_before NoSign r = r
 sign_before Negative r = t.Minus ∷ r
 sign_before Inverted r = t.Bang ∷ r
 
+-- the tokens of an expression, and those behind them
 abbrev mutual
   pub expr_before : Expr → List Token → List Token
   expr_before (Alone x) r = operand_before x r
@@ -51,6 +54,7 @@ args_before (e ∷ es) r = expr_before e (more_before es r)
 abbrev pub call_before : List ℕ → List Expr → List Token → List Token
 call_before w es r = t.Word w ∷ t.LeftParen ∷ args_before es r
 
+-- the tokens of what a variable is set to, and those behind them
 abbrev pub init_before : Init → List Token → List Token
 init_before (GetOf w) r = t.Get ∷ t.Word w ∷ r
 init_before (CreateOf w es) r = t.Create ∷ call_before w es r
@@ -67,6 +71,7 @@ abbrev pub length_before : Option ℕ → List Token → List Token
 length_before None r = r
 length_before (Some n) r = t.LeftSquare ∷ t.Number n ∷ t.RightSquare ∷ r
 
+-- the tokens of a type, and those behind them
 abbrev pub var_type_before : VarType → List Token → List Token
 var_type_before (Plain d) r = type_before d r
 var_type_before (Array d n) r = type_before d (t.LeftSquare ∷ t.Number n ∷ t.RightSquare ∷ r)
@@ -76,6 +81,7 @@ abbrev pub var_init_before : Option Init → List Token → List Token
 var_init_before None r = r
 var_init_before (Some i) r = t.Equals ∷ init_before i r
 
+-- the tokens of a statement, a block or another branch, and those behind them
 abbrev mutual
   pub stmt_before : Stmt → List Token → List Token
   stmt_before (Declare w v) r = t.Var ∷ t.Word w ∷ t.Colon ∷ var_type_before v (t.Semicolon ∷ r)
@@ -97,6 +103,7 @@ abbrev mutual
   tail_before NoElse r = r
   tail_before (ElseOf b) r = t.Else ∷ t.LeftBrace ∷ block_before b r
 
+-- the tokens of a parameter, and those behind them
 abbrev pub param_before : Param → List Token → List Token
 param_before p r = t.Word p.name ∷ t.Colon ∷ var_type_before p.type r
 
@@ -110,6 +117,7 @@ abbrev pub params_before : List Param → List Token → List Token
 params_before [] r = t.RightParen ∷ r
 params_before (p ∷ ps) r = param_before p (more_params_before ps r)
 
+-- the tokens of an item, and those behind them
 abbrev pub item_before : Item → List Token → List Token
 item_before (CellsOf w n) r = t.Cells ∷ t.Word w ∷ t.LeftSquare ∷ t.Number n ∷ t.RightSquare ∷ t.Semicolon ∷ r
 item_before (TaskOf w ps d b) r = t.Task ∷ t.Word w ∷ t.LeftParen ∷ params_before ps (type_before d (t.LeftBrace ∷ block_before b r))
@@ -119,6 +127,7 @@ abbrev pub items_before : List Item → List Token → List Token
 items_before [] r = t.End ∷ r
 items_before (i ∷ is) r = item_before i (items_before is r)
 
+-- the tokens of a program, and those behind them
 abbrev pub program_before : Program → List Token → List Token
 program_before p r = item_before p.first (items_before p.others r)
 

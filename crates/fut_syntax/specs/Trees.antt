@@ -71,6 +71,7 @@ mutual
     NoElse : Tail
     ElseOf : Block → Tail
 
+-- a parameter: its name and its type
 pub record Param : Type 0 where
   pub name : List ℕ
   pub type : VarType

@@ -20,11 +20,13 @@ use Rattle.fut_syntax.specs.declared.tree.Item.{Item}
 use Rattle.fut_syntax.specs.declared.inits.Called.{Called}
 use Rattle.fut_syntax.specs.Trees as trees
 
+-- a sign, as a definition sees it
 abbrev pub sign_tree : Sign → trees.Sign
 sign_tree s.None = trees.NoSign
 sign_tree s.Negative = trees.Negative
 sign_tree s.Inverted = trees.Inverted
 
+-- an operator, as a definition sees it
 abbrev pub op_tree : Operator → trees.Op
 op_tree op.Add = trees.Add
 op_tree op.Subtract = trees.Subtract
@@ -40,6 +42,7 @@ op_tree op.AtMost = trees.AtMost
 op_tree op.Greater = trees.Greater
 op_tree op.AtLeast = trees.AtLeast
 
+-- an expression and its parts, as a definition sees them
 abbrev mutual
   pub expr_tree : Expr → trees.Expr
   expr_tree (Alone o) = trees.Alone (operand_tree o)
@@ -53,6 +56,7 @@ abbrev mutual
   primary_tree (Word w) = trees.Name w
   primary_tree (Bracket' p (more_of-Expr e _)) = trees.Bracket (expr_tree e)
 
+-- arguments, as a definition sees them
 abbrev pub args_tree : List Expr → List trees.Expr
 args_tree es = map expr_tree es
 
@@ -60,20 +64,24 @@ args_tree es = map expr_tree es
 abbrev pub call_tree : Called → (List ℕ × List trees.Expr)
 call_tree c = (c.name, args_tree c.given)
 
+-- what a variable is set to, as a definition sees it
 abbrev pub init_tree : Init → trees.Init
 init_tree (init.Get w) = trees.GetOf w
 init_tree (init.Create w es) = trees.CreateOf w (args_tree es)
 init_tree (init.Index w e) = trees.Index w (expr_tree e)
 init_tree (init.Value e) = trees.Value (expr_tree e)
 
+-- the same, where the variable is set
 abbrev pub var_init_tree : Option Init → Option trees.Init
 var_init_tree None = None
 var_init_tree (Some i) = Some (init_tree i)
 
+-- a type, as a definition sees it
 abbrev pub type_tree : VarType → trees.VarType
 type_tree (kind.Plain d) = trees.Plain d
 type_tree (kind.Array d n) = trees.Array d n
 
+-- a statement and its parts, as a definition sees them
 abbrev mutual
   pub stmt_tree : Stmt → trees.Stmt
   stmt_tree (Declare w v) = trees.Declare w (type_tree v)
@@ -94,6 +102,7 @@ abbrev mutual
   tail_tree tail.None = trees.NoElse
   tail_tree (Else' shape b) = trees.ElseOf (row_tree b)
 
+-- a block, as a definition sees it
 abbrev pub block_tree : List Stmt → trees.Block
 block_tree [] = trees.Done
 block_tree (s ∷ b) = trees.Then (stmt_tree s) (block_tree b)
@@ -103,16 +112,20 @@ abbrev pub joined : List Stmt → trees.Block → trees.Block
 joined [] rest = rest
 joined (s ∷ b) rest = trees.Then (stmt_tree s) (joined b rest)
 
+-- a parameter, as a definition sees it
 abbrev pub param_tree : Param → trees.Param
 param_tree p = record { name = p.name; type = type_tree p.kind }
 
+-- parameters, as a definition sees them
 abbrev pub params_tree : List Param → List trees.Param
 params_tree ps = map param_tree ps
 
+-- an item, as a definition sees it
 abbrev pub item_tree : Item → trees.Item
 item_tree (item.Cells w n) = trees.CellsOf w n
 item_tree (item.Task w ps d b) = trees.TaskOf w (params_tree ps) d (block_tree b)
 
+-- items, as a definition sees them
 abbrev pub items_tree : List Item → List trees.Item
 items_tree is = map item_tree is
 

@@ -55,7 +55,8 @@ fn params(alloc: Global, cursor: &mut Cursor, depth: u32) -> Result<Items<Param>
 
 /// An array of cells after its first word.
 fn cells(alloc: Global, cursor: &mut Cursor) -> Result<Item, Stop>
-    ensures { ReadOn (λ q. t.Cells ∷ q) (Word' ∷ LeftSquare' ∷ Number' ∷ RightSquare' ∷ Semicolon' ∷ More ∷ []) (More ∷ []) item_before item_tree 0 cursor.old cursor.new result }
+    ensures { ReadOn (λ q. t.Cells ∷ q) (Word' ∷ LeftSquare' ∷ Number' ∷ RightSquare' ∷ Semicolon' ∷ More ∷ [])
+        (More ∷ []) item_before item_tree 0 cursor.old cursor.new result }
 {
     let name = word(alloc, cursor)?;
     open_square(cursor, 0)?;
@@ -67,7 +68,8 @@ fn cells(alloc: Global, cursor: &mut Cursor) -> Result<Item, Stop>
 
 /// A task after its first word.
 fn task(alloc: Global, cursor: &mut Cursor) -> Result<Item, Stop>
-    ensures { ReadOn (λ q. t.Task ∷ q) (Word' ∷ LeftParen' ∷ Params ∷ Type' ∷ Block' ∷ More ∷ []) (More ∷ []) item_before item_tree 0 cursor.old cursor.new result }
+    ensures { ReadOn (λ q. t.Task ∷ q) (Word' ∷ LeftParen' ∷ Params ∷ Type' ∷ Block' ∷ More ∷ [])
+        (More ∷ []) item_before item_tree 0 cursor.old cursor.new result }
 {
     let name = word(alloc, cursor)?;
     let inner = open_paren(cursor, 0)?;

@@ -96,7 +96,8 @@ fn plain(alloc: Global, cursor: &mut Cursor, depth: u32) -> Result<Stmt, Stop>
 /// A declaration after `var`.
 fn declared(alloc: Global, cursor: &mut Cursor, depth: u32) -> Result<Stmt, Stop>
     requires { depth ≤ 64 }
-    ensures { ReadOn (λ q. t.Var ∷ q) (Word' ∷ Colon' ∷ Type' ∷ Length ∷ VarInit ∷ Semicolon' ∷ Stmts ∷ []) (Stmts ∷ []) stmt_before stmt_tree depth cursor.old cursor.new result }
+    ensures { ReadOn (λ q. t.Var ∷ q) (Word' ∷ Colon' ∷ Type' ∷ Length ∷ VarInit ∷ Semicolon' ∷ Stmts ∷ [])
+        (Stmts ∷ []) stmt_before stmt_tree depth cursor.old cursor.new result }
 {
     let name = word(alloc, cursor)?;
     colon(cursor)?;
@@ -160,7 +161,8 @@ fn element_value(alloc: Global, cursor: &mut Cursor, depth: u32) -> Result<Expr,
 /// A `spawn` after its word.
 fn spawned(alloc: Global, cursor: &mut Cursor, depth: u32) -> Result<Stmt, Stop>
     requires { depth ≤ 64 }
-    ensures { ReadOn (λ q. t.Spawn ∷ q) (Word' ∷ LeftParen' ∷ Args ∷ Semicolon' ∷ Stmts ∷ []) (Stmts ∷ []) stmt_before stmt_tree depth cursor.old cursor.new result }
+    ensures { ReadOn (λ q. t.Spawn ∷ q) (Word' ∷ LeftParen' ∷ Args ∷ Semicolon' ∷ Stmts ∷ [])
+        (Stmts ∷ []) stmt_before stmt_tree depth cursor.old cursor.new result }
 {
     let task = call(alloc, cursor, depth)?;
     semicolon(cursor)?;

@@ -59,6 +59,7 @@ begun_by (Syncs strand) = strand ∷ []
 begun_by (Gets _ _ strand) = strand ∷ []
 begun_by _ = []
 
+-- an event begins a strand
 abbrev pub begins_strand : ℕ → Event → Bool
 begins_strand v e = is_in v (begun_by e.action)
 
@@ -79,7 +80,8 @@ BegunOnce = (P : tree.Program) (h : List Event) (m : Machine) (v : ℕ) → Lead
 -- two tasks stand on two strands
 abbrev pub StrandsAreOwn : Type 0
 StrandsAreOwn =
-    (P : tree.Program) (h : List Event) (m : Machine) (t u : ℕ) (r q : Running) → Leads P (opening P) h m → slice_get m.tasks t ≡ Some r → slice_get m.tasks u ≡ Some q
+    (P : tree.Program) (h : List Event) (m : Machine) (t u : ℕ) (r q : Running) → Leads P (opening P) h m
+    → slice_get m.tasks t ≡ Some r → slice_get m.tasks u ≡ Some q
     → r.strand ≡ q.strand → t ≡ u
 
 -- after an event that leaves its strand no event stands on that strand
@@ -113,7 +115,8 @@ end_at t strand value = record { task = t; strand = strand; action = Ends value 
 -- the value of a task is that of its end
 abbrev pub ValueWasEnded : Type 0
 ValueWasEnded =
-    (P : tree.Program) (h : List Event) (m : Machine) (t : ℕ) (r : Running) (value : Value) → Leads P (opening P) h m → slice_get m.tasks t ≡ Some r → r.value ≡ Some value
+    (P : tree.Program) (h : List Event) (m : Machine) (t : ℕ) (r : Running) (value : Value) → Leads P (opening P) h m
+    → slice_get m.tasks t ≡ Some r → r.value ≡ Some value
     → (strand : ℕ) × Among (end_at t strand value) h
 
 -- a task ended with a value among the first events of a history, and ends nowhere else in it
@@ -125,7 +128,8 @@ pub record EndedBefore (before whole : List Event) (t : ℕ) (value : Value) : T
 -- a get of a future stands after the one end of the future's task, and has its value
 abbrev pub GetsFollowEnds : Type 0
 GetsFollowEnds =
-    (P : tree.Program) (before : List Event) (e : Event) (later : List Event) → IsLegal P (before ++ e ∷ later) → (future : ℕ) (value : Value) (strand : ℕ) → e.action ≡ Gets future value strand
+    (P : tree.Program) (before : List Event) (e : Event) (later : List Event) → IsLegal P (before ++ e ∷ later)
+    → (future : ℕ) (value : Value) (strand : ℕ) → e.action ≡ Gets future value strand
     → EndedBefore before (before ++ e ∷ later) future value
 
 -- a variable has the handle of a future, an array variable in one of its elements
@@ -140,6 +144,7 @@ pub record MakesNoHandle (P : tree.Program) (s : TaskState) : Type 0 where
   pub created : (code : ℕ) (args : List Value) → wish_of P s ≡ ToCreate code args → (future : ℕ) → Among (Fut future) args → HasHandle s.vars future
   pub ended : (future : ℕ) → wish_of P s ≡ ToEnd (Fut future) → HasHandle s.vars future
 
+-- so it is in each state of each program
 abbrev pub EvaluationMakesNoHandle : Type 0
 EvaluationMakesNoHandle = (P : tree.Program) (s : TaskState) → MakesNoHandle P s
 

@@ -48,11 +48,13 @@ pub record MadeRow (m : Machine) (main kid : Running) : Type 0 where
   pub first : IsFirst made m 1 kid
   pub goes : IsAllowed future_program m 1
 
+-- what holds of the run
 pub record FutureRow : Type 0 where
   pub cells : HasCells future_program
   pub whole : IsWhole future_program future_history
   pub sound : IsSound (structure_of future_history)
-  pub begun : (count_by (begins_strand 0) future_history ≡ 0) × (count_by (begins_strand 1) future_history ≡ 1) × (count_by (begins_strand 3) future_history ≡ 1) × (count_by (begins_strand 4) future_history ≡ 0)
+  pub begun : (count_by (begins_strand 0) future_history ≡ 0) × (count_by (begins_strand 1) future_history ≡ 1)
+      × (count_by (begins_strand 3) future_history ≡ 1) × (count_by (begins_strand 4) future_history ≡ 0)
   pub left : (count_by (leaves_strand 0) future_history ≡ 1) × (count_by (leaves_strand 1) future_history ≡ 1) × (count_by (leaves_strand 3) future_history ≡ 1)
   pub got : EndedBefore ended future_history 1 (Int (pos 7))
   pub early : (m : Machine) × (main : Running) × (kid : Running) × MadeRow m main kid

@@ -34,9 +34,11 @@ place_of s = record { items = items_tree s.items.now; names = s.names.now }
 pub record Means (names : List Name) (gives : Variables → Slot) (t : Term) : Type 0 where
   pub same : (vars : Variables) (slots : List Slot) → Holds names vars slots → slot_by slots t ≡ gives vars
 
+-- a term means the same as an expression
 abbrev pub MeansExpr : List Name → tree.Expr → Term → Type 0
 MeansExpr names e t = Means names (λ vars. slot_in vars e) t
 
+-- so do terms and expressions in pairs
 abbrev pub MeanAll : List Name → List tree.Expr → List Term → Type 0
 MeanAll names [] [] = Unit {0}
 MeanAll names [] (_ ∷ _) = ⊥
@@ -58,10 +60,13 @@ fill_of (tree.Array _ k) = fill.Many k
 -- an instruction does what a statement says that holds no others, and goes on at the next place
 abbrev pub IsDone : Place → tree.Stmt → ℕ → Instruction → Type 0
 IsDone g (tree.Declare w type) next i =
-    (n : ℕ) × (find_name g.names w ≡ Some n) × HasRoom (rooms_by g.names) n type × (i ≡ Set (record { variable = n; fill = fill_of type }) (source.Value (Number (pos 0))) next)
+    (n : ℕ) × (find_name g.names w ≡ Some n) × HasRoom (rooms_by g.names) n type
+    × (i ≡ Set (record { variable = n; fill = fill_of type }) (source.Value (Number (pos 0))) next)
 IsDone g (tree.Define w type init) next i =
-    (n : ℕ) × (s : Source) × (find_name g.names w ≡ Some n) × HasRoom (rooms_by g.names) n type × IsSource g init s × (i ≡ Set (record { variable = n; fill = fill_of type }) s next)
-IsDone g (tree.Assign w init) next i = (n : ℕ) × (s : Source) × (find_name g.names w ≡ Some n) × IsSource g init s × (i ≡ Set (record { variable = n; fill = fill.Again }) s next)
+    (n : ℕ) × (s : Source) × (find_name g.names w ≡ Some n) × HasRoom (rooms_by g.names) n type × IsSource g init s
+    × (i ≡ Set (record { variable = n; fill = fill_of type }) s next)
+IsDone g (tree.Assign w init) next i = (n : ℕ) × (s : Source) × (find_name g.names w ≡ Some n) × IsSource g init s
+    × (i ≡ Set (record { variable = n; fill = fill.Again }) s next)
 IsDone g (tree.Store w e f) next i =
     (a : Term) × (b : Term) × MeansExpr g.names e a × MeansExpr g.names f b × (i ≡ Store (find_name g.names w) (find_array (arrays_from 0 g.items) w) a b next)
 IsDone g (tree.SpawnOf w es) next i = (n : ℕ) × (ts : List Term) × (find_task g.items w ≡ Some n) × MeanAll g.names es ts × (i ≡ Spawn n ts next)
@@ -78,7 +83,9 @@ Stands code place what = (i : Instruction) × (slice_get code place ≡ Some i) 
 abbrev mutual
   pub DoesStmt : Place → List Instruction → tree.Stmt → ℕ → ℕ → Type 0
   DoesStmt g code (tree.If' e b t) next entry =
-      (test : Term) × (then : ℕ) × (otherwise : ℕ) × MeansExpr g.names e test × (slice_get code entry ≡ Some (Branch test then otherwise)) × DoesBlock g code b next then × DoesTail g code t next otherwise
+      (test : Term) × (then : ℕ) × (otherwise : ℕ) × MeansExpr g.names e test
+      × (slice_get code entry ≡ Some (Branch test then otherwise)) × DoesBlock g code b next then
+      × DoesTail g code t next otherwise
   DoesStmt g code (tree.While' e b) next entry =
       (test : Term) × (then : ℕ) × MeansExpr g.names e test × (slice_get code entry ≡ Some (Branch test then next)) × DoesBlock g code b entry then
   DoesStmt g code (tree.Declare w type) next entry = Stands code entry (IsDone g (tree.Declare w type) next)
@@ -110,7 +117,8 @@ AreGiven names at [] [] = Unit {0}
 AreGiven names at [] (_ ∷ _) = ⊥
 AreGiven names at (_ ∷ _) [] = ⊥
 AreGiven names at (p ∷ ps) (x ∷ xs) =
-    (find_name names p.name ≡ Some x.variable) × (x.first ≡ at) × (type_tree x.kind ≡ p.type) × HasRoom (rooms_by names) x.variable p.type × AreGiven names (at + size_of p.type) ps xs
+    (find_name names p.name ≡ Some x.variable) × (x.first ≡ at) × (type_tree x.kind ≡ p.type)
+    × HasRoom (rooms_by names) x.variable p.type × AreGiven names (at + size_of p.type) ps xs
 
 -- what code shows: the arrays of cells, the code of each task, the place of `main`, and the number of cells
 pub record Compiled : Type 0 where
@@ -125,6 +133,7 @@ pub record IsCodeOfTask (items : List tree.Item) (t : TaskText) (code : TaskCode
   pub ends : slice_get code.instructions 0 ≡ Some (Return (Number (pos 0)))
   pub given : AreGiven code.names 0 t.params code.params
 
+-- the codes are those of the texts, in pairs
 abbrev pub AreCodesOf : List tree.Item → List TaskText → List TaskCode → Type 0
 AreCodesOf items [] [] = Unit {0}
 AreCodesOf items [] (_ ∷ _) = ⊥
@@ -144,8 +153,10 @@ abbrev pub code_or_none : Option TaskCode → TaskCode
 code_or_none None = record { names = []; params = []; entry = 0; instructions = [] }
 code_or_none (Some t) = t
 
+-- the code of a task, or an empty one
 abbrev pub code_of : List TaskCode → ℕ → TaskCode
 code_of tasks which = code_or_none (slice_get tasks which)
 
+-- the instructions of a task
 abbrev pub instructions_at : List TaskCode → ℕ → List Instruction
 instructions_at tasks which = (code_of tasks which).instructions

@@ -28,6 +28,7 @@ IsVariable names w = (n : ℕ) × (find_name names w ≡ Some n)
 abbrev pub IsTask : List tree.Item → List ℕ → Type 0
 IsTask items w = (n : ℕ) × (find_task items w ≡ Some n)
 
+-- what a variable is set to has its names and its numbers
 abbrev pub ServesInit : Place → tree.Init → Type 0
 ServesInit g (tree.GetOf w) = IsVariable g.names w
 ServesInit g (tree.CreateOf w es) = IsTask g.items w × (each_fits es ≡ true)
@@ -55,6 +56,7 @@ abbrev mutual
   ServesTail g tree.NoElse = Unit {0}
   ServesTail g (tree.ElseOf b) = ServesBlock g b
 
+-- each parameter has a variable of its type
 abbrev pub ServesParams : List Name → List tree.Param → Type 0
 ServesParams names [] = Unit {0}
 ServesParams names (p ∷ ps) = HasVariable names p.name p.type × ServesParams names ps

@@ -43,6 +43,7 @@ filled_with f n v fill.One = slice_set f.slots n (One v)
 filled_with f n v (fill.Many k) = slice_set f.slots n (Many (replicate (min k (slice_index f.rooms n)) v))
 filled_with f n v fill.Again = slice_set f.slots n (refilled (slot_in_place f.slots n) v)
 
+-- the slots after a value is put where a target says
 abbrev pub aimed : Held → Target → Value → List Slot
 aimed f t v = filled_with f t.variable v t.fill
 
@@ -51,24 +52,29 @@ pub record Moved : Type 0 where
   pub next : ℕ
   pub slots : List Slot
 
+-- the value of a source, where it takes no event
 abbrev pub local_source : List Slot → Source → Option Value
 local_source slots (source.Value t) = Some (value_by slots t)
 local_source slots (source.Element v a t) = element_of (slot_for slots v) (number_by slots t)
 local_source slots (source.Get n) = None
 local_source slots (source.Create n ts) = None
 
+-- the slots after the value of a source is put, where there is one
 abbrev pub set_slots : Held → Target → Option Value → Option (List Slot)
 set_slots f t None = None
 set_slots f t (Some v) = Some (aimed f t v)
 
+-- the slots after an array is put, where it has a variable
 abbrev pub array_set : List Slot → Option ℕ → List Value → List Slot
 array_set slots None vs = slots
 array_set slots (Some n) vs = slice_set slots n (Many vs)
 
+-- the slots after an element is set, where the variable has elements
 abbrev pub store_slots : List Slot → Option ℕ → Slot → ℤ → Value → Option (List Slot)
 store_slots slots v (One _) z x = None
 store_slots slots v (Many vs) z x = Some (array_set slots v (slice_set vs (index_of (length vs) z) x))
 
+-- a move to a place, where it makes slots
 abbrev pub moved_to : ℕ → Option (List Slot) → Option Moved
 moved_to next None = None
 moved_to next (Some slots) = Some (record { next = next; slots = slots })
@@ -83,6 +89,7 @@ moves f (Some (Spawn n ts next)) = None
 moves f (Some (Sync next)) = None
 moves f (Some (Return t)) = None
 
+-- the wish of a source
 abbrev pub wished_source : List CellArray → List Slot → Source → state.Wish
 wished_source arrays slots (source.Value t) = state.NoWish
 wished_source arrays slots (source.Element v a t) = read_of (cell_for arrays a (number_by slots t))
@@ -115,6 +122,7 @@ abbrev pub passed_by_source : List Slot → Source → List Value
 passed_by_source slots (source.Create n ts) = values_by slots ts
 passed_by_source slots _ = []
 
+-- the values that an instruction passes to a child
 abbrev pub passed_by : List Slot → Option Instruction → List Value
 passed_by slots (Some (Set t s next)) = passed_by_source slots s
 passed_by slots (Some (Spawn n ts next)) = values_by slots ts
@@ -129,10 +137,12 @@ received_by (Creates _ child _ _ _) = Some (Fut child)
 received_by (Gets _ value _) = Some value
 received_by _ = None
 
+-- the slots after a value comes, where one comes
 abbrev pub received : Held → Target → Option Value → List Slot
 received f t None = f.slots
 received f t (Some v) = aimed f t v
 
+-- the slots after an action at an instruction
 abbrev pub slots_after : Held → Option Instruction → Action → List Slot
 slots_after f (Some (Set t s next)) a = received f t (received_by a)
 slots_after f _ a = f.slots
@@ -145,15 +155,18 @@ place_after place (Some (Spawn n ts next)) = next
 place_after place (Some (Sync next)) = next
 place_after place _ = place
 
+-- whether the block is open after an action
 abbrev pub open_after : Bool → Action → Bool
 open_after is_open (Spawns _ _ _ _ _) = true
 open_after is_open (Syncs _) = false
 open_after is_open _ = is_open
 
+-- whether the task has ended after an action
 abbrev pub ended_after : Bool → Action → Bool
 ended_after ended (Ends _) = true
 ended_after ended _ = ended
 
+-- where a task stands after an action at an instruction
 abbrev pub spot_after : Spot → Option Instruction → Action → Spot
 spot_after s i a = record { place = place_after s.place i; is_open = open_after s.is_open a; ended = ended_after s.ended a; steps = 0 }
 

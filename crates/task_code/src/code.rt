@@ -189,7 +189,9 @@ fn code_of(
     requires few { length arrays.now < 2 ^ 32 }
     requires tasks { length (tasks_from (items_tree items.now)) < 2 ^ 32 }
     requires sound { IsSound (items_tree items.now) (params_tree params.now) (block_tree body.now) }
-    ensures { IfOk result (λ code. (name : List ℕ) → IsCodeOfTask (items_tree items.now) (record { name = name; params = params_tree params.now; body = block_tree body.now }) code) }
+    ensures { IfOk result (λ code. (name : List ℕ)
+        → IsCodeOfTask (items_tree items.now)
+        (record { name = name; params = params_tree params.now; body = block_tree body.now }) code) }
 {
     let names = names_of(alloc, params, body)?;
     let given = given_of(alloc, names.as_slice(), params)?;

@@ -181,7 +181,9 @@ fn fill_for(kind: &VarType) -> Fill
 /// The variable of a name that is declared with a type.
 fn target_of(scope: &Scope, word: &[u8], kind: &VarType) -> Target
     requires { HasVariable scope.now.names.now word.now (type_tree kind.now) }
-    ensures { (find_name scope.now.names.now word.now ≡ Some result.variable) × HasRoom (rooms_by scope.now.names.now) result.variable (type_tree kind.now) × (result.fill ≡ fill_of (type_tree kind.now)) }
+    ensures { (find_name scope.now.names.now word.now ≡ Some result.variable)
+        × HasRoom (rooms_by scope.now.names.now) result.variable (type_tree kind.now)
+        × (result.fill ≡ fill_of (type_tree kind.now)) }
 {
     Target {
         variable: variable_of(scope, word),
@@ -333,7 +335,8 @@ pub fn add_block(
 ) -> Result<u32, NoMemory>
     requires serves { ServesBlock (place_of scope.now) (block_tree stmts.now) }
     requires few { length code.old.items + instructions_in (block_tree stmts.now) < 2 ^ 32 }
-    ensures does { IfOk result (λ entry. Grows code.old.items code.new.items × DoesBlock (place_of scope.now) code.new.items (block_tree stmts.now) next entry) }
+    ensures does { IfOk result (λ entry. Grows code.old.items code.new.items
+        × DoesBlock (place_of scope.now) code.new.items (block_tree stmts.now) next entry) }
     ensures count { OnOk result (length code.new.items ≡ length code.old.items + instructions_in (block_tree stmts.now)) }
 {
     let mut entry = next;
@@ -406,7 +409,8 @@ fn add_one(
     requires serves { ServesStmt (place_of scope.now) (stmt_tree stmt.now) }
     requires alone { IsAlone (stmt_tree stmt.now) }
     requires few { length code.old.items < 2 ^ 32 }
-    ensures does { IfOk result (λ entry. Grows code.old.items code.new.items × Stands code.new.items entry (IsDone (place_of scope.now) (stmt_tree stmt.now) next)) }
+    ensures does { IfOk result (λ entry. Grows code.old.items code.new.items
+        × Stands code.new.items entry (IsDone (place_of scope.now) (stmt_tree stmt.now) next)) }
     ensures count { OnOk result (length code.new.items ≡ length code.old.items + 1) }
 {
     let instruction = instruction_of(alloc, scope, stmt, next)?;

@@ -32,7 +32,9 @@ pub fn frame_of(alloc: Global, task: &TaskCode, args: &[Value]) -> Result<Frame,
 /// The variables of the task of the text at a place, as it begins with these arguments.
 pub fn frame_at(alloc: Global, code: &Code, which: u32, args: &[Value]) -> Result<Frame, NoMemory>
     ensures rooms { IfOk result (λ f. f.rooms ≡ rooms_by (code_of code.now.tasks which).names) }
-    ensures holds { IfOk result (λ f. (ps : List Parameter) → AreGiven (code_of code.now.tasks which).names 0 ps (code_of code.now.tasks which).params → Holds (code_of code.now.tasks which).names (bound ps args.now) f.slots) }
+    ensures holds { IfOk result (λ f. (ps : List Parameter)
+        → AreGiven (code_of code.now.tasks which).names 0 ps (code_of code.now.tasks which).params
+        → Holds (code_of code.now.tasks which).names (bound ps args.now) f.slots) }
 {
     match code.task(which) {
         Some(task) => frame_of(alloc, task, args),
@@ -42,7 +44,8 @@ pub fn frame_at(alloc: Global, code: &Code, which: u32, args: &[Value]) -> Resul
 
 /// Sets a parameter.
 fn give(frame: &mut Frame, given: Given, args: &[Value])
-    ensures slots { frame.new.slots ≡ slice_set frame.old.slots given.variable (taken_in (slice_index frame.old.rooms given.variable) (type_tree given.kind) (drop given.first args.now)) }
+    ensures slots { frame.new.slots ≡ slice_set frame.old.slots given.variable
+        (taken_in (slice_index frame.old.rooms given.variable) (type_tree given.kind) (drop given.first args.now)) }
     ensures rooms { frame.new.rooms ≡ frame.old.rooms }
 {
     let own = behind(args, given.first);

@@ -79,7 +79,8 @@ fn local_value(frame: &Frame, source: &Source) -> Option<Value>
 
 /// Makes the local step of an instruction, and tells the next place; `None` where it stands at an event.
 pub fn step(frame: &mut Frame, instruction: &Instruction) -> Option<u32>
-    ensures moves { MatchOption result ((moves frame.old (Some instruction.now) ≡ None) × (frame.new ≡ frame.old)) (λ next. moves frame.old (Some instruction.now) ≡ Some (record { next = next; slots = frame.new.slots })) }
+    ensures moves { MatchOption result ((moves frame.old (Some instruction.now) ≡ None) × (frame.new ≡ frame.old))
+        (λ next. moves frame.old (Some instruction.now) ≡ Some (record { next = next; slots = frame.new.slots })) }
     ensures rooms { frame.new.rooms ≡ frame.old.rooms }
 {
     match instruction {
@@ -181,7 +182,8 @@ pub fn wish(
     instruction: &Instruction,
     is_open: bool,
 ) -> Option<Wish>
-    ensures { MatchOption result (wished arrays.now frame.now.slots is_open (Some instruction.now) ≡ NoWish) (λ w. IsTold w (wished arrays.now frame.now.slots is_open (Some instruction.now))) }
+    ensures { MatchOption result (wished arrays.now frame.now.slots is_open (Some instruction.now) ≡ NoWish)
+        (λ w. IsTold w (wished arrays.now frame.now.slots is_open (Some instruction.now))) }
 {
     match instruction {
         Instruction::Set { source, .. } => wish_of_source(frame, arrays, source),
@@ -205,7 +207,8 @@ pub fn wish(
 }
 
 fn wish_of_source(frame: &Frame, arrays: &[CellArray], source: &Source) -> Option<Wish>
-    ensures { MatchOption result (wished_source arrays.now frame.now.slots source.now ≡ NoWish) (λ w. IsTold w (wished_source arrays.now frame.now.slots source.now)) }
+    ensures { MatchOption result (wished_source arrays.now frame.now.slots source.now ≡ NoWish)
+        (λ w. IsTold w (wished_source arrays.now frame.now.slots source.now)) }
 {
     match source {
         Source::Value(_) => None,

@@ -81,7 +81,8 @@ impl Task {
         args: &Args,
     ) -> Result<Task, NoMemory>
         ensures begins { IfOk result (λ t. (t.number ≡ number) × (t.which ≡ which) × (t.spot.ended ≡ false) × (t.trace.items ≡ [])) }
-        ensures state { IfOk result (λ t. (P : tree.Program) → IsCodeOf P code.now → ArgsFit any_future P which args.now.items → IsTaskOf P code.now args.now.items t (start_state P which args.now.items)) }
+        ensures state { IfOk result (λ t. (P : tree.Program) → IsCodeOf P code.now → ArgsFit any_future P which args.now.items
+            → IsTaskOf P code.now args.now.items t (start_state P which args.now.items)) }
     {
         let frame = frame_at(alloc, code, which, args.as_slice())?;
         Ok(Task {
@@ -100,7 +101,8 @@ impl Task {
 
     /// Makes room for one more entry in the trace.
     pub fn reserve(&mut self) -> Result<(), NoMemory>
-        ensures task { (self.new.number ≡ self.old.number) × (self.new.which ≡ self.old.which) × (self.new.spot ≡ self.old.spot) × (self.new.held ≡ self.old.held) }
+        ensures task { (self.new.number ≡ self.old.number) × (self.new.which ≡ self.old.which) × (self.new.spot ≡ self.old.spot)
+            × (self.new.held ≡ self.old.held) }
         ensures trace { self.new.trace.items ≡ self.old.trace.items }
         ensures room { OnOk result (1 ≤ self.new.trace.spare) }
         ensures unchanged { OnErr result (self.new ≡ self.old) }
@@ -116,9 +118,11 @@ impl Task {
         requires most { limit ≤ MOST_LOCAL_STEPS }
         ensures task { (self.new.number ≡ self.old.number) × (self.new.which ≡ self.old.which) × (self.new.spot.ended ≡ false) }
         ensures trace { self.new.trace ≡ self.old.trace }
-        ensures state { (P : tree.Program) (args : List Carried) (s : TaskState) → IsCodeOf P code.now → IsTaskOf P code.now args self.old s → IsTaskOf P code.now args self.new s }
+        ensures state { (P : tree.Program) (args : List Carried) (s : TaskState) → IsCodeOf P code.now
+            → IsTaskOf P code.now args self.old s → IsTaskOf P code.now args self.new s }
         ensures stops { StopsAt code.now self.new result }
-        ensures wish { (P : tree.Program) (args : List Carried) (s : TaskState) → IsCodeOf P code.now → IsTaskOf P code.now args self.old s → Wishes P limit s result }
+        ensures wish { (P : tree.Program) (args : List Carried) (s : TaskState) → IsCodeOf P code.now
+            → IsTaskOf P code.now args self.old s → Wishes P limit s result }
     {
         for _ in self.spot.steps..limit {
             if let Some(wish) = self.turn(code) {
@@ -155,8 +159,12 @@ impl Task {
     pub fn args(&self, alloc: Global, code: &Code) -> Result<Args, NoMemory>
         requires running { self.now.spot.ended ≡ false }
         requires still { IsStill code.now self.now }
-        ensures spawn { (P : tree.Program) (given : List Carried) (s t : TaskState) (which : ℕ) (args : List Carried) → IsCodeOf P code.now → IsTaskOf P code.now given self.now s → StandsAt s t → wish_of P t ≡ ToSpawn which args → IfOk result (λ a. a.items ≡ args) }
-        ensures create { (P : tree.Program) (given : List Carried) (s t : TaskState) (which : ℕ) (args : List Carried) → IsCodeOf P code.now → IsTaskOf P code.now given self.now s → StandsAt s t → wish_of P t ≡ ToCreate which args → IfOk result (λ a. a.items ≡ args) }
+        ensures spawn { (P : tree.Program) (given : List Carried) (s t : TaskState) (which : ℕ) (args : List Carried)
+            → IsCodeOf P code.now → IsTaskOf P code.now given self.now s → StandsAt s t → wish_of P t ≡ ToSpawn which args
+            → IfOk result (λ a. a.items ≡ args) }
+        ensures create { (P : tree.Program) (given : List Carried) (s t : TaskState) (which : ℕ) (args : List Carried)
+            → IsCodeOf P code.now → IsTaskOf P code.now given self.now s → StandsAt s t → wish_of P t ≡ ToCreate which args
+            → IfOk result (λ a. a.items ≡ args) }
     {
         match code.instruction(self.which, self.spot.place) {
             Some(instruction) => passed(alloc, &self.frame, instruction),
@@ -169,10 +177,14 @@ impl Task {
         requires { 1 ≤ self.old.trace.spare }
         ensures task { (self.new.number ≡ self.old.number) × (self.new.which ≡ self.old.which) }
         ensures spot { self.new.spot ≡ spot_after self.old.spot (instruction_of code.now self.old) (action_of entry.act) }
-        ensures held { (self.new.held.slots ≡ slots_after self.old.held (instruction_of code.now self.old) (action_of entry.act)) × (self.new.held.rooms ≡ self.old.held.rooms) }
+        ensures held { (self.new.held.slots ≡ slots_after self.old.held (instruction_of code.now self.old) (action_of entry.act))
+            × (self.new.held.rooms ≡ self.old.held.rooms) }
         ensures trace { self.new.trace.items ≡ self.old.trace.items ++ (ticket, entry) ∷ [] }
         ensures room { self.new.trace.spare + 1 ≡ self.old.trace.spare }
-        ensures state { (P : tree.Program) (args : List Carried) (s t : TaskState) → IsCodeOf P code.now → IsStill code.now self.old → IsTaskOf P code.now args self.old s → self.old.spot.ended ≡ false → StandsAt s t → Answers (wish_of P t) (action_of entry.act) → ActionFits any_future P self.old.which t (action_of entry.act) → IsTaskOf P code.now args self.new (effect_of t (action_of entry.act)) }
+        ensures state { (P : tree.Program) (args : List Carried) (s t : TaskState) → IsCodeOf P code.now
+            → IsStill code.now self.old → IsTaskOf P code.now args self.old s → self.old.spot.ended ≡ false → StandsAt s t
+            → Answers (wish_of P t) (action_of entry.act) → ActionFits any_future P self.old.which t (action_of entry.act)
+            → IsTaskOf P code.now args self.new (effect_of t (action_of entry.act)) }
     {
         self.take_in(code, &entry.act);
         self.trace.push(ticket, entry);
@@ -219,7 +231,12 @@ impl Task {
 
 /// Where a task stands after an act, at a place that is known.
 fn spot_behind(spot: Spot, act: &Act) -> Spot
-    ensures { result ≡ record { place = spot.place; is_open = open_after spot.is_open (action_of act.now); ended = ended_after spot.ended (action_of act.now); steps = 0 } }
+    ensures { result ≡ record {
+      place = spot.place;
+      is_open = open_after spot.is_open (action_of act.now);
+      ended = ended_after spot.ended (action_of act.now);
+      steps = 0;
+    } }
 {
     let is_open = match act {
         Act::Spawn { .. } => true,

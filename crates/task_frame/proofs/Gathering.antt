@@ -14,10 +14,6 @@ use Rattle.task_frame.specs.declared.names.Name.{Name}
 use Rattle.task_frame.specs.Names.{find_from, find_name, rooms_by}
 use Rattle.task_frame.specs.Gathered.{room_of, Has, HasInit, HasStmt, HasBlock, HasTail, HasParams, HasRoomAt, Widens, words_of_stmt, words_of_block}
 
-pub on_ok : {X E : Type 0} (r : Result X E) (P Q : Type 0) → (P → Q) → OnOk r P → OnOk r Q
-on_ok (Ok x) P Q f h = f h
-on_ok (Err e) P Q f h = tt
-
 pub both : {X E : Type 0} (r : Result X E) (P Q : Type 0) → OnOk r P → OnOk r Q → OnOk r (P × Q)
 both (Ok x) P Q p q = (p, q)
 both (Err e) P Q p q = tt

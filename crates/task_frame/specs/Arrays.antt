@@ -4,6 +4,7 @@ use Rattle.fut_syntax.specs.Trees as tree
 use Rattle.task_machine.specs.Texts.{CellArray}
 use Rattle.task_machine.specs.Values.{index_of}
 
+-- the place of the first array of this name, counted from n
 abbrev pub array_from : ℕ → List CellArray → List ℕ → Option ℕ
 array_from n [] word = None
 array_from n (a ∷ rest) word = if bytes_eq a.name word then Some n else array_from (n + 1) rest word
@@ -16,6 +17,7 @@ find_array arrays word = array_from 0 arrays word
 abbrev pub cell_in : ℤ → CellArray → ℕ
 cell_in z a = a.first + index_of a.length z
 
+-- the cell at an index of the array at a place, where there is one
 abbrev pub cell_for : List CellArray → Option ℕ → ℤ → Option ℕ
 cell_for arrays None z = None
 cell_for arrays (Some n) z = option_map (cell_in z) (slice_get arrays n)

@@ -11,6 +11,7 @@ use Rattle.task_frame.specs.declared.frame.Place.{Place}
 abbrev pub zero_value : Value
 zero_value = Int (pos 0)
 
+-- a slot with the value 0
 abbrev pub zero_slot : Slot
 zero_slot = One zero_value
 
@@ -50,15 +51,19 @@ abbrev pub shaped : List Value → ℕ → Shape → Slot
 shaped values first shape.One = One (slice_index_or values first zero_value)
 shaped values first (shape.Many n) = Many (take n (drop first values))
 
+-- the slot of a parameter, filled with its values
 abbrev pub slot_of : List Value → Place → Slot
 slot_of values p = shaped values p.first p.shape
 
+-- the slots of all parameters
 abbrev pub slots_of : List Value → List Place → List Slot
 slots_of values places = map (slot_of values) places
 
+-- how much room each place has
 abbrev pub rooms_of : List Place → List ℕ
 rooms_of places = map (λ (p : Place). p.room) places
 
+-- how many values a slot of this shape has
 abbrev pub shape_size : Shape → ℕ
 shape_size shape.One = 1
 shape_size (shape.Many n) = n

@@ -15,12 +15,14 @@ pub record Has (names : List Name) (w : List ℕ) (room : ℕ) : Type 0 where
   pub found : find_name names w ≡ Some number
   pub wide : room ≤ slice_index (rooms_by names) number
 
+-- the words of what a variable is set to are among the names
 abbrev pub HasInit : List Name → tree.Init → Type 0
 HasInit names (tree.GetOf w) = Has names w 1
 HasInit names (tree.CreateOf w es) = Unit {0}
 HasInit names (tree.Index w e) = Unit {0}
 HasInit names (tree.Value e) = Unit {0}
 
+-- the words of a statement, a block or another branch are among the names
 abbrev mutual
   pub HasStmt : List Name → tree.Stmt → Type 0
   HasStmt names (tree.Declare w v) = Has names w (room_of v)
@@ -41,6 +43,7 @@ abbrev mutual
   HasTail names tree.NoElse = Unit {0}
   HasTail names (tree.ElseOf b) = HasBlock names b
 
+-- the names of the parameters are among the names
 abbrev pub HasParams : List Name → List tree.Param → Type 0
 HasParams names [] = Unit {0}
 HasParams names (p ∷ ps) = Has names p.name (room_of p.type) × HasParams names ps
@@ -52,6 +55,7 @@ words_of_init (tree.CreateOf w es) = 0
 words_of_init (tree.Index w e) = 0
 words_of_init (tree.Value e) = 0
 
+-- how many words a statement, a block or another branch has
 abbrev mutual
   pub words_of_stmt : tree.Stmt → ℕ
   words_of_stmt (tree.Declare w v) = 1

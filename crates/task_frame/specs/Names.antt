@@ -5,6 +5,7 @@ use Rattle.task_machine.specs.Variables.{Slot, Variables, slot_at}
 use Rattle.task_frame.specs.declared.names.Name.{Name}
 use Rattle.task_frame.specs.Frames.{slot_for}
 
+-- the place of the first such name, counted from n
 abbrev pub find_from : ℕ → List Name → List ℕ → Option ℕ
 find_from n [] word = None
 find_from n (d ∷ ds) word = if bytes_eq d.word word then Some n else find_from (n + 1) ds word

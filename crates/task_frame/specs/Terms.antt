@@ -10,6 +10,7 @@ use Rattle.task_machine.specs.Variables.{Slot, One, value_of, values_of, signed}
 use Rattle.task_frame.specs.declared.term.Term.{Term, Number, Variable, Negative', Inverted', Pair', more_of-Term}
 use Rattle.task_frame.specs.Frames.{slot_in_place}
 
+-- the number that a term means in these slots
 abbrev pub number_by : List Slot → Term → ℤ
 number_by slots (Number z) = z
 number_by slots (Variable i) = number_of (value_of (slot_in_place slots i))
@@ -22,6 +23,7 @@ abbrev pub slot_by : List Slot → Term → Slot
 slot_by slots (Variable i) = slot_in_place slots i
 slot_by slots t = One (Int (number_by slots t))
 
+-- the value that a term means in these slots
 abbrev pub value_by : List Slot → Term → Value
 value_by slots t = value_of (slot_by slots t)
 

@@ -41,7 +41,8 @@ impl CellArray {
 
     /// The index of a cell; `None` exactly where the cell is none of it.
     pub fn index(&self, cell: u32) -> Option<u32>
-        ensures { MatchOption result (self.now.first ≤ cell → cell < self.now.first + self.now.length → ⊥) (λ index. (self.now.first + index ≡ cell) × (index < self.now.length)) }
+        ensures { MatchOption result (self.now.first ≤ cell → cell < self.now.first + self.now.length → ⊥)
+            (λ index. (self.now.first + index ≡ cell) × (index < self.now.length)) }
     {
         if self.first <= cell && cell - self.first < self.length {
             Some(cell - self.first)

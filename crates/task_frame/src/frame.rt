@@ -83,7 +83,8 @@ impl Frame {
 
     /// The elements of a variable that is an array now.
     pub fn elements(&self, variable: u32) -> Option<&[Value]>
-        ensures { MatchOption result (elements_of (slot_in_place self.now.slots variable) ≡ None) (λ vs. elements_of (slot_in_place self.now.slots variable) ≡ Some vs.now) }
+        ensures { MatchOption result (elements_of (slot_in_place self.now.slots variable) ≡ None)
+            (λ vs. elements_of (slot_in_place self.now.slots variable) ≡ Some vs.now) }
     {
         match place_of(&self.places, variable) {
             Some(place) => match place.shape {
@@ -137,7 +138,8 @@ impl Frame {
 
     /// Makes a variable an array of so many values, or as many as it has room for, whatever these are.
     fn open(&mut self, variable: u32, count: usize)
-        ensures slots { (vs : List Carried) × (length vs ≡ min count (slice_index self.old.rooms variable)) × (self.new.slots ≡ slice_set self.old.slots variable (Many vs)) }
+        ensures slots { (vs : List Carried) × (length vs ≡ min count (slice_index self.old.rooms variable))
+            × (self.new.slots ≡ slice_set self.old.slots variable (Many vs)) }
         ensures rooms { self.new.rooms ≡ self.old.rooms }
     {
         if let Some(place) = place_of(&self.places, variable) {

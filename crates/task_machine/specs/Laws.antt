@@ -18,11 +18,13 @@ LeadsToOne = (P : tree.Program) (m : Machine) (h : List Event) (a b : Machine) �
 
 -- events lead as their two parts do one after the other
 abbrev pub LeadsByParts : Type 0
-LeadsByParts = (P : tree.Program) (m : Machine) (h k : List Event) (n : Machine) → Leads P m (h ++ k) n ↔ ((middle : Machine) × Leads P m h middle × Leads P middle k n)
+LeadsByParts = (P : tree.Program) (m : Machine) (h k : List Event) (n : Machine)
+    → Leads P m (h ++ k) n ↔ ((middle : Machine) × Leads P m h middle × Leads P middle k n)
 
 -- a further step
 abbrev pub LeadsFurther : Type 0
-LeadsFurther = (P : tree.Program) (m : Machine) (h : List Event) (e : Event) (n next : Machine) → Leads P m h n → IsStep P n e next → Leads P m (h ++ e ∷ []) next
+LeadsFurther = (P : tree.Program) (m : Machine) (h : List Event) (e : Event) (n next : Machine) → Leads P m h n
+    → IsStep P n e next → Leads P m (h ++ e ∷ []) next
 
 -- what a legal history begins with is legal
 abbrev pub PrefixIsLegal : Type 0
@@ -34,25 +36,33 @@ StrandsRise = (P : tree.Program) (m : Machine) (e : Event) (n : Machine) → IsS
 
 -- each child of a task's block has a greater number than the task, and exists
 abbrev pub ChildrenComeLater : Type 0
-ChildrenComeLater = (P : tree.Program) (h : List Event) (m : Machine) (t : ℕ) (r : Running) → Leads P (opening P) h m → slice_get m.tasks t ≡ Some r → (c : ℕ) → Among c r.block → (t < c) × (c < length m.tasks)
+ChildrenComeLater = (P : tree.Program) (h : List Event) (m : Machine) (t : ℕ) (r : Running) → Leads P (opening P) h m
+    → slice_get m.tasks t ≡ Some r → (c : ℕ) → Among c r.block → (t < c) × (c < length m.tasks)
 
 -- each task stands on a strand that was made
 abbrev pub StrandsWereMade : Type 0
-StrandsWereMade = (P : tree.Program) (h : List Event) (m : Machine) (t : ℕ) (r : Running) → Leads P (opening P) h m → slice_get m.tasks t ≡ Some r → r.strand < m.strands
+StrandsWereMade = (P : tree.Program) (h : List Event) (m : Machine) (t : ℕ) (r : Running) → Leads P (opening P) h m
+    → slice_get m.tasks t ≡ Some r → r.strand < m.strands
 
 -- a task stands at one event, and is not out of steps then
 abbrev pub StandsAtOne : Type 0
 StandsAtOne = (s t u : TaskState) → StandsAt s t → StandsAt s u → t ≡ u
 
+-- a task that stands at an event is not out of steps
 abbrev pub StandsOrGoesOn : Type 0
 StandsOrGoesOn = (s t : TaskState) → StandsAt s t → IsOutOfSteps s → ⊥
 
 -- after a step the acting task has acted, each other task is as it was, and the child that was made has the next number
 abbrev pub ActingTaskActs : Type 0
-ActingTaskActs = (P : tree.Program) (m : Machine) (e : Event) (n : Machine) → (x : IsStep P m e n) → slice_get n.tasks e.task ≡ Some (acted x.task x.stop e.action)
+ActingTaskActs = (P : tree.Program) (m : Machine) (e : Event) (n : Machine) → (x : IsStep P m e n)
+    → slice_get n.tasks e.task ≡ Some (acted x.task x.stop e.action)
 
+-- a step changes no task but the acting one
 abbrev pub OthersStay : Type 0
-OthersStay = (P : tree.Program) (m : Machine) (e : Event) (n : Machine) (t : ℕ) (r : Running) → IsStep P m e n → (t ≡ e.task → ⊥) → slice_get m.tasks t ≡ Some r → slice_get n.tasks t ≡ Some r
+OthersStay = (P : tree.Program) (m : Machine) (e : Event) (n : Machine) (t : ℕ) (r : Running) → IsStep P m e n → (t ≡ e.task → ⊥)
+    → slice_get m.tasks t ≡ Some r → slice_get n.tasks t ≡ Some r
 
+-- the child of an action has the next number
 abbrev pub ChildComes : Type 0
-ChildComes = (P : tree.Program) (m : Machine) (e : Event) (n : Machine) (r : Running) → (x : IsStep P m e n) → child_of P x.task e.action ≡ r ∷ [] → slice_get n.tasks (length m.tasks) ≡ Some r
+ChildComes = (P : tree.Program) (m : Machine) (e : Event) (n : Machine) (r : Running) → (x : IsStep P m e n)
+    → child_of P x.task e.action ≡ r ∷ [] → slice_get n.tasks (length m.tasks) ≡ Some r

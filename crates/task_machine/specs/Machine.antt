@@ -42,6 +42,7 @@ opening P = record { tasks = begins P (main_of P) [] 0 0 ∷ []; cells = replica
 abbrev pub ended_with : Machine → ℕ → Option Value
 ended_with m t = option_and_then (λ (r : Running). r.value) (slice_get m.tasks t)
 
+-- each of these tasks has ended
 abbrev pub AllHaveEnded : Machine → List ℕ → Type 0
 AllHaveEnded m [] = Unit {0}
 AllHaveEnded m (t ∷ ts) = IsSome (ended_with m t) × AllHaveEnded m ts
@@ -86,6 +87,7 @@ child_of P r (Spawns code _ kid _ args) = begins P code args kid r.future ∷ []
 child_of P r (Creates code child kid _ args) = begins P code args kid child ∷ []
 child_of P r _ = []
 
+-- the cells after an action
 abbrev pub cells_after : Action → List ℤ → List ℤ
 cells_after (Writes cell value) cells = slice_set cells cell value
 cells_after _ cells = cells
@@ -120,6 +122,7 @@ Leads P m (e ∷ h) n = (next : Machine) × IsStep P m e next × Leads P next h 
 abbrev pub IsLegal : tree.Program → List Event → Type 0
 IsLegal P h = (m : Machine) × Leads P (opening P) h m
 
+-- each task has ended
 abbrev pub EachEnded : List Running → Type 0
 EachEnded [] = Unit {0}
 EachEnded (r ∷ rs) = IsSome r.value × EachEnded rs
@@ -143,10 +146,12 @@ pub record IsBlocked (P : tree.Program) (m : Machine) (t : ℕ) : Type 0 where
   pub has_steps : IsOutOfSteps task.state → ⊥
   pub waits : IsAllowed P m t → ⊥
 
+-- an action that creates a future
 abbrev pub creates : Action → Bool
 creates (Creates _ _ _ _ _) = true
 creates _ = false
 
+-- how many futures a history creates
 abbrev pub create_count : List Event → ℕ
 create_count h = count_by (λ e. creates e.action) h
 
@@ -159,4 +164,5 @@ abbrev pub FinishHolds : tree.Program → List Event → Finish → Type 0
 FinishHolds P h finish.Whole = IsWhole P h
 FinishHolds P h (finish.Events b) = (length h ≡ b) × (IsWhole P h → ⊥)
 FinishHolds P h (finish.Local t) = (m : Machine) × (r : Running) × Leads P (opening P) h m × IsRunning m t r × IsOutOfSteps r.state
-FinishHolds P h (finish.Futures t) = (m : Machine) × (r : Running) × Leads P (opening P) h m × IsRunning m t r × (create_count h ≡ MOST_CREATES) × WishesCreate P r
+FinishHolds P h (finish.Futures t) = (m : Machine) × (r : Running) × Leads P (opening P) h m × IsRunning m t r
+    × (create_count h ≡ MOST_CREATES) × WishesCreate P r

@@ -9,6 +9,7 @@ use Rattle.task_machine.specs.Values.{combine, index_of}
 use Rattle.task_machine.specs.State.{TaskState, ToSync, ToEnd, wish_of, effect_of}
 use Rattle.task_machine.specs.Machine.{IsLegal, IsWhole}
 
+-- a number as an expression
 abbrev pub literal : ℕ → tree.Expr
 literal n = tree.Alone (tree.Signed tree.NoSign (tree.Literal n))
 
@@ -20,10 +21,13 @@ spawn_program =
       others =
           tree.TaskOf (codes "kid") [] 0 (tree.Then (tree.Store (codes "a") (literal 0) (literal 1)) (tree.Then (tree.Return' (literal 0)) tree.Done))
           ∷ tree.TaskOf (codes "main") [] 0
-          (tree.Then (tree.SpawnOf (codes "kid") []) (tree.Then (tree.Store (codes "a") (literal 0) (literal 2)) (tree.Then tree.SyncAll (tree.Then (tree.Return' (literal 0)) tree.Done))))
+          (tree.Then (tree.SpawnOf (codes "kid") [])
+          (tree.Then (tree.Store (codes "a") (literal 0) (literal 2))
+          (tree.Then tree.SyncAll (tree.Then (tree.Return' (literal 0)) tree.Done))))
           ∷ [];
     }
 
+-- its run in which the child goes first
 abbrev pub spawn_history : List Event
 spawn_history =
     ev 0 0 (Spawns 0 1 1 2 []) ∷ ev 1 1 (Writes 0 (pos 1)) ∷ ev 1 1 (Ends (Int (pos 0)))

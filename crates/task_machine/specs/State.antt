@@ -26,6 +26,7 @@ pub data Wish : Type 0 where
   ToEnd : Value → Wish
   NoWish : Wish
 
+-- the state with which a task begins, where the text has it
 abbrev pub started : Option TaskText → List Value → TaskState
 started None args = record { vars = []; todo = []; is_open = false }
 started (Some t) args = record { vars = bound t.params args; todo = stmts_of t.body; is_open = false }
@@ -58,6 +59,7 @@ local_value vars (tree.Index word e) = element_of (slot_at vars word) (number_in
 local_value vars (tree.GetOf _) = None
 local_value vars (tree.CreateOf _ _) = None
 
+-- a local step that sets a variable to what is found, where it is local
 abbrev pub init_step : TaskState → List tree.Stmt → tree.Stmt → Option Value → Option TaskState
 init_step s rest stmt None = None
 init_step s rest stmt (Some v) = Some (goes_on s rest (set_by stmt s.vars v))
@@ -79,6 +81,7 @@ step_by s rest (tree.SpawnOf _ _) = None
 step_by s rest tree.SyncAll = None
 step_by s rest (tree.Return' _) = None
 
+-- the local step of the first statement, where it is one
 abbrev pub first_step : TaskState → List tree.Stmt → Option TaskState
 first_step s [] = None
 first_step s (stmt ∷ rest) = step_by s rest stmt
@@ -89,22 +92,27 @@ local_step s = first_step s s.todo
 
 -- ---- wishes
 
+-- the wish to read a cell, where the text has it
 abbrev pub read_of : Option ℕ → Wish
 read_of None = NoWish
 read_of (Some cell) = ToRead cell
 
+-- the wish to write a cell, where the text has it
 abbrev pub write_of : Option ℕ → ℤ → Wish
 write_of None z = NoWish
 write_of (Some cell) z = ToWrite cell z
 
+-- the wish to spawn a task, where the text has it
 abbrev pub spawn_of : Option ℕ → List Value → Wish
 spawn_of None args = NoWish
 spawn_of (Some code) args = ToSpawn code args
 
+-- the wish to create a future, where the text has its task
 abbrev pub create_of : Option ℕ → List Value → Wish
 create_of None args = NoWish
 create_of (Some code) args = ToCreate code args
 
+-- the wish to wait for a future, where the value is a handle
 abbrev pub get_of : Value → Wish
 get_of (Int _) = NoWish
 get_of (Fut future) = ToGet future
@@ -114,12 +122,14 @@ abbrev pub end_of : Bool → Value → Wish
 end_of true v = ToSync
 end_of false v = ToEnd v
 
+-- the wish of what a variable is set to
 abbrev pub wish_of_init : tree.Program → Variables → tree.Init → Wish
 wish_of_init P vars (tree.GetOf word) = get_of (value_of (slot_at vars word))
 wish_of_init P vars (tree.CreateOf word es) = create_of (task_number P word) (values_in vars es)
 wish_of_init P vars (tree.Index word e) = read_of (cell_at P word (number_in vars e))
 wish_of_init P vars (tree.Value _) = NoWish
 
+-- the wish of a statement
 abbrev pub wish_by : tree.Program → TaskState → tree.Stmt → Wish
 wish_by P s (tree.Define _ _ init) = wish_of_init P s.vars init
 wish_by P s (tree.Assign _ init) = wish_of_init P s.vars init
@@ -131,6 +141,7 @@ wish_by P s (tree.Declare _ _) = NoWish
 wish_by P s (tree.If' _ _ _) = NoWish
 wish_by P s (tree.While' _ _) = NoWish
 
+-- the wish of the first statement, or to end
 abbrev pub first_wish : tree.Program → TaskState → List tree.Stmt → Wish
 first_wish P s [] = end_of s.is_open (Int (pos 0))
 first_wish P s (stmt ∷ _) = wish_by P s stmt

@@ -16,6 +16,7 @@ abbrev pub truth : Bool → ℤ
 truth true = pos 1
 truth false = pos 0
 
+-- a number is 0
 abbrev pub is_zero : ℤ → Bool
 is_zero z = int_eq z (pos 0)
 
@@ -23,6 +24,7 @@ is_zero z = int_eq z (pos 0)
 abbrev pub quotient : ℤ → ℤ → ℤ
 quotient x y = if is_zero y then pos 0 else int_wrapping_div w64 x y
 
+-- the remainder, which has the sign of the dividend; that of a divisor 0 is 0
 abbrev pub remainder : ℤ → ℤ → ℤ
 remainder x y = if is_zero y then pos 0 else int_rem x y
 

@@ -65,9 +65,11 @@ abbrev mutual
   primary_in vs (tree.Name word) = slot_at vs word
   primary_in vs (tree.Bracket e) = slot_in vs e
 
+-- the value of an expression
 abbrev pub value_in : Variables → tree.Expr → Value
 value_in vs e = value_of (slot_in vs e)
 
+-- the value of an expression, as a number
 abbrev pub number_in : Variables → tree.Expr → ℤ
 number_in vs e = number_of (value_in vs e)
 

@@ -1,13 +1,11 @@
 -- Tests, lists and variables that are set.
-use Rattle.std.proofs.Common.{◌≡◌, ℕ, zero, suc, ◌<◌, Bool, true, false, cond, List, [], ◌∷◌, ◌++◌, length, ◌⊎◌, inl, inr, refl, sym, ap, ◌∙◌, subst, arith}
+use Rattle.std.proofs.Common.{◌≡◌, ℕ, zero, suc, ◌<◌, Bool, true, false, cond, List, [], ◌∷◌, ◌++◌, length, refl, sym, ap, ◌∙◌, subst, arith}
 use Rattle.std.specs.Prelude.{Some, None, Option, pos, replicate, slice_index_or, bytes_eq, nat_eq}
 use Rattle.std.proofs.lemmas.Slice.Eq.{bytes_eq-Decides}
 use Rattle.std.proofs.lemmas.Bool.{cond-true, cond-false}
-use Rattle.fut_base.proofs.Members.{among_right}
 use Rattle.fut_base.proofs.Cases.{by_bool}
 use Rattle.fut_base.specs.declared.record.Value.{Value}
 use Rattle.fut_base.specs.declared.record.Value.TheVariants.{Int}
-use Rattle.fut_base.specs.Dag.{Among}
 use Rattle.fut_rules.specs.declared.fault.Rule.{Rule}
 use Rattle.fut_rules.specs.Faults.{broken, fault_if}
 use Rattle.task_machine.specs.Variables.{Slot, One, Variables, slot_at, put}

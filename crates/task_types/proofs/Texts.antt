@@ -1,5 +1,5 @@
 -- What a program without faults is: names that differ, good types, and bodies without faults.
-use Rattle.std.proofs.Common.{◌≡◌, ◌≢◌, ℕ, zero, suc, ◌+◌, ◌<◌, Bool, true, false, cond, not, ◌&&◌, ◌||◌, List, [], ◌∷◌, ◌++◌, append_assoc, length, ◌⊎◌, inl, inr, refl, sym, ap, ◌∙◌, subst, arith, eqb-true, ltb-false, ltb-true, eq-eqb, append-nil, lt-ltb}
+use Rattle.std.proofs.Common.{◌≡◌, ◌≢◌, ℕ, zero, suc, ◌+◌, Bool, true, false, not, ◌&&◌, List, [], ◌∷◌, ◌++◌, append_assoc, inl, inr, refl, sym, ap, ◌∙◌, subst, arith, eq-eqb, append-nil, lt-ltb}
 use Rattle.std.specs.Prelude.{Some, bytes_eq, nat_eq, nat_lt, slice_get}
 use Rattle.std.proofs.lemmas.Bool.{not-false, or_parts, both_ways}
 use Rattle.std.proofs.lemmas.Option.{same_Some}

@@ -12,10 +12,12 @@ use Rattle.task_machine.specs.Runs.{StandsAt}
 use Rattle.task_machine.specs.Machine.{Machine, Running, opening, IsStep, Leads}
 use Rattle.task_types.specs.Typed.{Text, text_at, Fits, ArgsFit, ActionFits, IsTypedState, any_future}
 
+-- a text whose value is of this depth
 abbrev pub has_depth : ℕ → Option Text → Bool
 has_depth d None = false
 has_depth d (Some t) = nat_eq t.depth d
 
+-- a task of the run whose text has this depth
 abbrev pub runs_depth : tree.Program → ℕ → Option Running → Bool
 runs_depth P d None = false
 runs_depth P d (Some r) = has_depth d (text_at P r.which)

@@ -22,6 +22,7 @@ pub record Text : Type 0 where
   pub depth : ℕ
   pub body : tree.Block
 
+-- the texts of the tasks of these items, in order
 abbrev pub texts_from : List tree.Item → List Text
 texts_from [] = []
 texts_from (tree.CellsOf _ _ ∷ rest) = texts_from rest
@@ -42,6 +43,7 @@ Fits gives zero (Fut _) = ⊥
 Fits gives (suc d) (Int _) = ⊥
 Fits gives (suc d) (Fut f) = gives f d ≡ true
 
+-- each of the values fits the depth
 abbrev pub AllFit : (ℕ → ℕ → Bool) → ℕ → List Value → Type 0
 AllFit gives d [] = Unit {0}
 AllFit gives d (v ∷ vs) = Fits gives d v × AllFit gives d vs
@@ -55,6 +57,7 @@ HasKind gives (kind.Handle d) (Many _) = ⊥
 HasKind gives (kind.Array d n) (One _) = ⊥
 HasKind gives (kind.Array d n) (Many vs) = (length vs ≡ n) × AllFit gives d vs
 
+-- a slot with the first of the values
 abbrev pub one_of : List Value → Slot
 one_of [] = Many []
 one_of (v ∷ vs) = One v
@@ -69,7 +72,8 @@ slot_of (kind.Array d n) vs = Many vs
 abbrev pub ParamsFit : (ℕ → ℕ → Bool) → List tree.Param → List Value → Type 0
 ParamsFit gives [] vs = vs ≡ []
 ParamsFit gives (p ∷ ps) vs =
-    (own : List Value) × (rest : List Value) × (vs ≡ own ++ rest) × HasKind gives (kind_of p.type) (slot_of (kind_of p.type) own) × (length own ≡ size (kind_of p.type)) × ParamsFit gives ps rest
+    (own : List Value) × (rest : List Value) × (vs ≡ own ++ rest) × HasKind gives (kind_of p.type) (slot_of (kind_of p.type) own)
+    × (length own ≡ size (kind_of p.type)) × ParamsFit gives ps rest
 
 -- the arguments fit the parameters of the task of a program at this place
 abbrev pub ArgsFit : (ℕ → ℕ → Bool) → tree.Program → ℕ → List Value → Type 0
@@ -121,6 +125,7 @@ abbrev pub got_word : tree.Init → Option (List ℕ)
 got_word (tree.GetOf w) = Some w
 got_word _ = None
 
+-- the word whose future the first statement gets, where it gets one
 abbrev pub got_by : List tree.Stmt → Option (List ℕ)
 got_by (tree.Define _ _ init ∷ _) = got_word init
 got_by (tree.Assign _ init ∷ _) = got_word init

@@ -1,12 +1,13 @@
 use Rattle.std.proofs.Common.{◌≡◌, ◌+◌, ap, sym, ◌∙◌, subst}
 use Rattle.std.specs.Prelude.{OnOk}
+use Rattle.std.proofs.lemmas.Result.{on_ok_weaker}
 use Rattle.fut_syntax.specs.declared.tree.Stmt.{If, While}
 use Rattle.fut_syntax.specs.declared.tree.Tail.{Else}
 use Rattle.fut_syntax.specs.Trees as tree
 use Rattle.fut_syntax.specs.Views.{expr_tree, stmt_tree, block_tree, tail_tree}
 use Rattle.fut_syntax.proofs.Made.{if_tree, while_tree, else_tree}
 use Rattle.task_frame.specs.Gathered.{HasStmt, HasBlock, HasTail, Widens, words_of_stmt, words_of_block, words_of_tail}
-use Rattle.task_frame.proofs.Gathering.{on_ok, both, widens_on, block_stays, block_step}
+use Rattle.task_frame.proofs.Gathering.{both, widens_on, block_stays, block_step}
 use Rattle.task_frame.proofs.names.+names.Goals as goal
 
 pub note_block-loop-stmt-preserved : goal.note_block-loop-stmt-preserved
@@ -24,7 +25,7 @@ note_stmt-returns-in_ok-note_block-in-If-clause-has t c =
     ap stmt_tree (w.is ∙ ap (λ x. If w.field-0 x w.tail) (sym c.as_slice-in-If.ensures)) ∙ if_tree w.field-0 b w.tail in
     let last = c.note_tail.new.names.items in
     subst (λ s. OnOk c.note_tail.result (HasStmt last s)) (sym is)
-    (on_ok c.note_tail.result (HasTail last (tail_tree w.tail) × Widens c.note_block.new.names.items last (words_of_tail (tail_tree w.tail))) (HasBlock last (block_tree b) × HasTail last (tail_tree w.tail))
+    (on_ok_weaker {P = (HasTail last (tail_tree w.tail) × Widens c.note_block.new.names.items last (words_of_tail (tail_tree w.tail)))} {Q = (HasBlock last (block_tree b) × HasTail last (tail_tree w.tail))} c.note_tail.result
     (λ x. (block_stays c.note_block.new.names.items last (words_of_tail (tail_tree w.tail)) x.1 (block_tree b) c.in_ok-note_block-in-If.ensures.has, x.0))
     (both c.note_tail.result _ _ c.note_tail.ensures.has c.note_tail.ensures.more))
 
@@ -36,7 +37,7 @@ note_stmt-returns-in_ok-note_block-in-If-clause-more t c =
     ap stmt_tree (w.is ∙ ap (λ x. If w.field-0 x w.tail) (sym c.as_slice-in-If.ensures)) ∙ if_tree w.field-0 b w.tail in
     let last = c.note_tail.new.names.items in
     subst (λ s. OnOk c.note_tail.result (Widens c.args.names.now.items last (words_of_stmt s))) (sym is)
-    (on_ok c.note_tail.result (Widens c.note_block.new.names.items last (words_of_tail (tail_tree w.tail))) (Widens c.args.names.now.items last (words_of_block (block_tree b) + words_of_tail (tail_tree w.tail)))
+    (on_ok_weaker {P = (Widens c.note_block.new.names.items last (words_of_tail (tail_tree w.tail)))} {Q = (Widens c.args.names.now.items last (words_of_block (block_tree b) + words_of_tail (tail_tree w.tail)))} c.note_tail.result
     (widens_on c.args.names.now.items c.note_block.new.names.items last (words_of_block (block_tree b)) (words_of_tail (tail_tree w.tail)) c.in_ok-note_block-in-If.ensures.more)
     c.note_tail.ensures.more)
 
