@@ -1,9 +1,15 @@
 //! Runs on several workers.
 use crate::status::Status;
 use crate::tests::{RACE, REPLAY, SYNC, ask};
+use crate::top::forder;
+use command_words::words::Words;
+use fut_base::gate::Gate;
+use fut_base::memory::{MemSink, MemSource};
 use fut_base::record::{Act, Entry};
 use run_record::reader::read_run;
+use std::sync::atomic::{AtomicU64, Ordering};
 use std::test::Fail;
+use std::thread;
 
 /// Futures that are got by others, and children that make futures.
 const WIDE: &str =
@@ -139,5 +145,106 @@ fn races_of_runs_on_workers(rt: HostRuntime) -> Result<(), Fail> {
             }
         }
     }
+    Ok(())
+}
+
+/// How often a held worker looks, at most.
+const PATIENCE: u32 = 50_000_000;
+
+/// Holds the worker that makes the first event, before its third, until another one has made an event.
+#[derive(Drop)]
+struct Holding {
+    /// The worker of the first event, counted from one.
+    first: AtomicU64,
+    others: AtomicU64,
+    held: AtomicU64,
+    gave_up: AtomicU64,
+}
+
+impl Holding {
+    fn new() -> Holding {
+        Holding {
+            first: AtomicU64::new(0),
+            others: AtomicU64::new(0),
+            held: AtomicU64::new(0),
+            gave_up: AtomicU64::new(0),
+        }
+    }
+
+    fn hold(&self) {
+        self.held.store(1, Ordering::SeqCst);
+        for _ in 0..PATIENCE {
+            if self.others.load(Ordering::SeqCst) > 0 {
+                return;
+            }
+            thread::yield_now();
+        }
+        self.gave_up.store(1, Ordering::SeqCst);
+    }
+}
+
+impl Gate for Holding {
+    fn pass(&self, worker: u32, events: u32) {
+        let me = worker as u64 + 1;
+        // there is one task at first, so nobody else calls before its first event
+        if self.first.load(Ordering::SeqCst) == 0 {
+            self.first.store(me, Ordering::SeqCst);
+        }
+        if self.first.load(Ordering::SeqCst) != me {
+            if events > 0 {
+                self.others.store(1, Ordering::SeqCst);
+            }
+        } else if events == 2 {
+            self.hold();
+        }
+    }
+
+    fn found(&self, _cell: u32) {}
+}
+
+/// The place of the spawn of a task.
+fn spawn_of(entries: &[Entry], task: u32) -> Option<usize> {
+    for place in 0..entries.len() {
+        if let Act::Spawn { child, .. } = &entries[place].act {
+            if *child == task {
+                return Some(place);
+            }
+        }
+    }
+    None
+}
+
+/// The place of the end of a task.
+fn end_of(entries: &[Entry], task: u32) -> Option<usize> {
+    for place in 0..entries.len() {
+        if let Act::End { .. } = &entries[place].act {
+            if entries[place].task == task {
+                return Some(place);
+            }
+        }
+    }
+    None
+}
+
+/// While one worker is held before the end of task 1, the other one spawns task 2.
+#[test]
+fn two_workers_make_events(rt: HostRuntime) -> Result<(), Fail> {
+    let alloc = rt.alloc();
+    let mut words = Words::make(alloc);
+    for word in ["run", "--workers", "2"] {
+        words.push(word)?;
+    }
+    let mut source = MemSource::make(alloc, KIDS.as_bytes(), 4096, &[])?;
+    let mut out = MemSink::make(alloc, 1_000_000, 4096, &[])?;
+    let gate = Holding::new();
+    let ended = forder(&rt, alloc, &words, &mut source, &mut out, &gate);
+    assert_eq!(rt; ended.status, Status::Clean);
+    assert_eq!(rt; gate.held.load(Ordering::SeqCst), 1);
+    assert_eq!(rt; gate.gave_up.load(Ordering::SeqCst), 0);
+    let entries = ended.history.as_slice();
+    let spawn = spawn_of(entries, 2);
+    let end = end_of(entries, 1);
+    assert!(rt; spawn.is_some() && end.is_some());
+    assert!(rt; spawn < end);
     Ok(())
 }
