@@ -35,10 +35,10 @@ fn create_on(tables: &mut Vec<Reach>, at: Strand) -> Option<()> {
 }
 
 fn merge(one: &Reach, other: &Reach, own: u32, last: Strand, lists: &Still) -> Option<Reach> {
-    if !are_known(lists, one.strands()) {
+    if !are_known(lists, one.strands().ok()?.as_slice()) {
         return None;
     }
-    if !are_known(lists, other.strands()) {
+    if !are_known(lists, other.strands().ok()?.as_slice()) {
         return None;
     }
     if last.number >= lists.english().len() {
@@ -59,7 +59,7 @@ fn get_on(tables: &mut Vec<Reach>, at: Strand, last: Strand, lists: &Still) -> O
 fn told(tables: &[Reach], lists: &mut Still, u: Strand, v: Strand) -> Option<bool> {
     let table = tables.get(v.number as usize)?;
     let known = lists.english().len();
-    if u.number >= known || v.number >= known || !are_known(lists, table.strands()) {
+    if u.number >= known || v.number >= known || !are_known(lists, table.strands().ok()?.as_slice()) {
         return None;
     }
     table.try_reaches(lists, u, v).ok()
@@ -67,7 +67,7 @@ fn told(tables: &[Reach], lists: &mut Still, u: Strand, v: Strand) -> Option<boo
 
 // Whether a table has exactly the strands with these numbers, in this order.
 fn has(tables: &[Reach], at: usize, numbers: &[u32]) -> Option<bool> {
-    let strands = tables.get(at)?.strands();
+    let strands = tables.get(at)?.strands().ok()?;
     for (k, number) in numbers.iter().enumerate() {
         if strands.get(k)?.number != *number {
             return Some(false);
