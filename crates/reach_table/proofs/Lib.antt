@@ -8,5 +8,9 @@ pub mod Leaving
 pub mod Apart
 pub mod Agreeing
 pub mod Putting
+pub mod Blocks
+pub mod Held
+pub mod Joins
+pub mod Found
 pub mod Reaching
 pub mod Events

@@ -5,11 +5,12 @@ ghost use Rattle.fut_base.specs.Dag.{Among};
 ghost use Rattle.strand_tree.specs.declared.strand.Strand.{Strand};
 ghost use Rattle.reach_table.specs.Sorted.{IsRising};
 ghost use Rattle.reach_table.specs.Telling.{HasTable, AllKnown, TellsReach, HasMovedLast, AsksAtMost};
+ghost use Rattle.reach_table.specs.Blocks.{flat, values, AreBlocks};
 ghost use Rattle.reach_table.specs.Merging.{together, IsGreatest};
 ghost use Rattle.reach_table.specs.Tabled.{AfterSpawn, AfterCreate, KidAfterCreate, AfterGet, MergesOneMore};
 
+use crate::block::{Shared, all_strands, block_of_future, block_strands, with_one};
 use crate::group::{is_or_precedes, of_future, reaches_one};
-use crate::block::{Shared, all_strands, block_strands, key_of, with_one};
 use crate::joining::join;
 use fut_base::list::NoMemory;
 use order_list::{Judge, Moved, Still};
@@ -31,13 +32,13 @@ impl Model for Reach {
     ghost use Rattle.std.specs.Arc.{arc_slice_items};
     ghost use Rattle.std.specs.Option.{option_map_or};
     ghost use Rattle.strand_tree.specs.declared.strand.Strand.{Strand};
-    ghost use Rattle.reach_table.specs.Sorted.{IsRising};
+    ghost use Rattle.reach_table.specs.Blocks.{flat, values, AreBlocks};
 
     ghost Value = { List Strand };
 
-    ghost view = { λ r. option_map_or arc_slice_items r.shared [] };
+    ghost view = { λ r. flat (values (option_map_or arc_slice_items r.shared [])) };
 
-    ghost invariant = { λ r. IsRising (option_map_or arc_slice_items r.shared []) };
+    ghost invariant = { λ r. AreBlocks (values (option_map_or arc_slice_items r.shared [])) };
 }
 
 impl Reach {
@@ -60,7 +61,10 @@ impl Reach {
         all_strands(self.alloc, self.blocks())
     }
 
+    // The blocks.
     fn blocks(&self) -> &[Shared]
+        ensures blocks { AreBlocks (values result.now) }
+        ensures strands { flat (values result.now) ≡ self.now }
     {
         match &self.shared {
             Some(shared) => shared.as_slice(),
@@ -134,12 +138,15 @@ impl Reach {
         if u.future == v.future {
             return is_or_precedes(judge, u, v);
         }
-        let strands = block_strands(self.blocks(), key_of(u.future));
+        let strands = block_strands(self.blocks(), block_of_future(u.future));
         reaches_one(judge, u, of_future(strands, u.future))
     }
 
     // A table of these blocks, with the same allocator.
-    fn made(&self, blocks: Vec<Shared>) -> Result<Reach, NoMemory> {
+    fn made(&self, blocks: Vec<Shared>) -> Result<Reach, NoMemory>
+        requires { AreBlocks (values blocks.items) }
+        ensures { IfOk result (λ table. table ≡ flat (values blocks.items)) }
+    {
         if blocks.is_empty() {
             return Ok(Reach::empty(self.alloc));
         }

@@ -59,7 +59,10 @@ fn get_on(tables: &mut Vec<Reach>, at: Strand, last: Strand, lists: &Still) -> O
 fn told(tables: &[Reach], lists: &mut Still, u: Strand, v: Strand) -> Option<bool> {
     let table = tables.get(v.number as usize)?;
     let known = lists.english().len();
-    if u.number >= known || v.number >= known || !are_known(lists, table.strands().ok()?.as_slice()) {
+    if u.number >= known
+        || v.number >= known
+        || !are_known(lists, table.strands().ok()?.as_slice())
+    {
         return None;
     }
     table.try_reaches(lists, u, v).ok()
