@@ -1,12 +1,11 @@
 -- The block of a future, where it is found, and one more strand in it.
-use Rattle.std.proofs.Common.{◌≡◌, ℕ, ◌+◌, ◌<◌, ◌≤◌, List, [], ◌∷◌, ◌++◌, take, drop, ◌⊎◌, inl, inr, subst, sym, arith, ◌∙◌}
+use Rattle.std.proofs.Common.{◌≡◌, ℕ, ◌<◌, List, ◌++◌, take, drop, ◌⊎◌, inl, inr, subst, sym, arith, ◌∙◌}
 use Rattle.std.specs.Prelude.{◌↔◌}
 use Rattle.fut_base.specs.Dag.{Among}
 use Rattle.strand_laws.proofs.Places.{among_or, among_left, among_right}
 use Rattle.strand_tree.specs.declared.strand.Strand.{Strand}
 use Rattle.reach_table.specs.declared.block.Block.{Block}
 use Rattle.reach_table.specs.Blocks.{key_of, flat, AreBlocks}
-use Rattle.reach_table.proofs.Members.{from_take, from_drop}
 use Rattle.reach_table.proofs.Blocks.{flat_append, key_in, blocks_take, blocks_drop, blocks_join}
 use Rattle.reach_table.proofs.Joins.{in_split, of_take, of_drop}
 
@@ -44,11 +43,11 @@ module _ (bs : List Block) (r : AreBlocks bs) (at n key : ℕ) (before : (b : Bl
         (blocks_join (take at bs) made (blocks_take at bs r) blocks (λ x y a b. (let lt = before x a in let e = keyed y b in omega (arith, lt, e))))
         (blocks_drop n (drop at bs) (blocks_drop at bs r))
         (λ x y a b. (
-            let lt = rest y b in
-            elim (among_or x (take at bs) made a) [
-              | inl l ↦ (let k = before x l in omega (arith, k, lt))
-              | inr m ↦ (let e = keyed x m in omega (arith, e, lt))
-            ]))
+        let lt = rest y b in
+        elim (among_or x (take at bs) made a) [
+          | inl l ↦ (let k = before x l in omega (arith, k, lt))
+          | inr m ↦ (let e = keyed x m in omega (arith, e, lt))
+        ]))
 
     pub with_strands : (one : List Strand) → ((w : Strand) → Among w (flat made) ↔ (Among w (flat (take n (drop at bs))) ⊎ Among w one)) → (w : Strand) → Among w (flat ((take at bs ++ made) ++ drop n (drop at bs))) ↔ Among w (flat bs ++ one)
     with_strands one iff w = (

@@ -1,7 +1,6 @@
 -- Blocks of two tables and a strand more, put together one block after the other.
-use Rattle.std.proofs.Common.{◌≡◌, ◌≢◌, ℕ, zero, suc, ◌+◌, ◌-◌, ◌<◌, ◌≤◌, List, [], ◌∷◌, ◌++◌, length, take, drop, ◌⊎◌, inl, inr, refl, subst, sym, ap, arith, ◌∙◌}
-use Rattle.std.specs.Prelude.{◌↔◌, Option, Some, None}
-use Rattle.std.proofs.lemmas.List.{length-drop, drop_all}
+use Rattle.std.proofs.Common.{◌≡◌, ◌≢◌, ℕ, zero, suc, ◌<◌, ◌≤◌, List, [], ◌++◌, take, drop, ◌⊎◌, inl, inr, refl, subst, sym, arith, ◌∙◌}
+use Rattle.std.specs.Prelude.{◌↔◌, Option, None}
 use Rattle.order_list.specs.Sides.{Lists}
 use Rattle.fut_base.specs.Dag.{Among}
 use Rattle.strand_laws.proofs.Places.{among_or, among_left, among_right, same_or_not}
@@ -9,8 +8,8 @@ use Rattle.strand_tree.specs.declared.strand.Strand.{Strand}
 use Rattle.reach_table.specs.declared.block.Block.{Block}
 use Rattle.reach_table.specs.Merging.{listed, together, IsGreatest}
 use Rattle.reach_table.specs.Blocks.{key_of, flat, AreBlocks}
-use Rattle.reach_table.specs.Joining.{IsLeast, HasKey, IsOfKey, IsNext}
-use Rattle.reach_table.proofs.Members.{from_take, from_drop}
+use Rattle.reach_table.specs.Joining.{IsLeast, HasKey, IsNext}
+use Rattle.reach_table.proofs.Members.{from_drop}
 use Rattle.reach_table.proofs.Putting.{greatest_same}
 use Rattle.reach_table.proofs.Blocks.{flat_split, flat_append, key_in, blocks_take, blocks_drop, blocks_join, lower}
 use Rattle.reach_table.proofs.Held.{greatest_apart}

@@ -1,6 +1,5 @@
-use Rattle.std.proofs.Common.{◌≡◌, List, ◌++◌, take, ap, sym, ◌∙◌, arith}
+use Rattle.std.proofs.Common.{◌≡◌, ◌++◌, take, ap, sym, ◌∙◌, arith}
 use Rattle.std.specs.Arc.{arc_value}
-use Rattle.strand_tree.specs.declared.strand.Strand.{Strand}
 use Rattle.reach_table.specs.declared.block.Block.{Block}
 use Rattle.reach_table.specs.Blocks.{flat, values}
 use Rattle.reach_table.proofs.Blocks.{flat_more}

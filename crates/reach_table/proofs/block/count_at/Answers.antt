@@ -1,4 +1,4 @@
-use Rattle.std.proofs.Common.{◌≡◌, ◌≢◌, length, get_or, subst, sym, ap, ◌∙◌, arith}
+use Rattle.std.proofs.Common.{sym, ap, ◌∙◌, arith}
 use Rattle.strand_laws.proofs.Held.{is_eq}
 use Rattle.reach_table.specs.declared.block.Block.{Block}
 use Rattle.reach_table.specs.Blocks.{values}

@@ -1,4 +1,4 @@
-use Rattle.std.proofs.Common.{◌≡◌, List, subst, sym, ◌∙◌}
+use Rattle.std.proofs.Common.{List, subst, sym, ◌∙◌}
 use Rattle.fut_base.specs.Dag.{Among}
 use Rattle.strand_tree.specs.declared.strand.Strand.{Strand}
 use Rattle.reach_table.proofs.Blocks.{none_of}

@@ -1,4 +1,4 @@
-use Rattle.std.proofs.Common.{length, arith}
+use Rattle.std.proofs.Common.{arith}
 use Rattle.reach_table.specs.Blocks.{values}
 use Rattle.reach_table.proofs.Blocks.{count, value_at, first_least, some_of}
 use Rattle.reach_table.proofs.joining.first_key.Goals as goal

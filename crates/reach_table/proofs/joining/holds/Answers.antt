@@ -1,4 +1,4 @@
-use Rattle.std.proofs.Common.{◌≡◌, ℕ, ◌+◌, ◌<◌, ◌≤◌, length, get_or, take, inl, inr, subst, sym, refl, arith}
+use Rattle.std.proofs.Common.{ℕ, get_or, take, inl, inr, subst, sym, arith}
 use Rattle.strand_tree.specs.declared.strand.Strand.{Strand}
 use Rattle.reach_table.specs.Joining.{HoldsAll}
 use Rattle.reach_table.proofs.Members.{at_place, equal_strands}

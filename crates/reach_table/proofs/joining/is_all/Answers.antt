@@ -1,6 +1,4 @@
-use Rattle.std.proofs.Common.{◌≡◌, ℕ, ◌<◌, true, false, true≢false, List, length, subst, sym, ◌∙◌}
-use Rattle.std.specs.Prelude.{◌↔◌}
-use Rattle.fut_base.specs.Dag.{Among}
+use Rattle.std.proofs.Common.{true≢false, List, length, subst, sym, ◌∙◌}
 use Rattle.strand_tree.specs.declared.strand.Strand.{Strand}
 use Rattle.reach_table.specs.Telling.{AllKnown}
 use Rattle.reach_table.specs.Merging.{listed}

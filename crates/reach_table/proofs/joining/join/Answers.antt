@@ -1,4 +1,4 @@
-use Rattle.std.proofs.Common.{◌≡◌, ℕ, ◌+◌, ◌<◌, ◌≤◌, List, [], ◌++◌, take, drop, length, inl, inr, ap, subst, sym, refl, arith, ◌∙◌}
+use Rattle.std.proofs.Common.{◌≡◌, ◌+◌, ◌<◌, List, [], take, drop, length, inl, inr, ap, subst, sym, refl, arith, ◌∙◌}
 use Rattle.std.specs.Prelude.{◌↔◌, option_to_list}
 use Rattle.fut_base.specs.Dag.{Among}
 use Rattle.strand_tree.specs.declared.strand.Strand.{Strand}
@@ -54,11 +54,11 @@ loop-key-smaller c =
     let other = c.behind-other.ensures.len in
     let fewer = c.left-last.ensures.fewer in
     let less : length c.behind-one.result.now + length c.behind-other.result.now + length (listed c.left-last.result) < length c.loop-key.one.now + length c.loop-key.other.now + length (listed c.loop-key.last) =
-        elim c.in-Some.ensures.0 [
-          | inl (inl h) ↦ (let k = taken_one (values c.loop-key.one.now) c.count_at-first.result c.in-Some.key h c.count_at-first.ensures.rest in omega (arith, k, one, other, fewer))
-          | inl (inr h) ↦ (let k = taken_one (values c.loop-key.other.now) c.count_at-second.result c.in-Some.key h c.count_at-second.ensures.rest in omega (arith, k, one, other, fewer))
-          | inr h ↦ (let k = c.left-last.ensures.less h in omega (arith, k, one, other))
-        ] in
+    elim c.in-Some.ensures.0 [
+      | inl (inl h) ↦ (let k = taken_one (values c.loop-key.one.now) c.count_at-first.result c.in-Some.key h c.count_at-first.ensures.rest in omega (arith, k, one, other, fewer))
+      | inl (inr h) ↦ (let k = taken_one (values c.loop-key.other.now) c.count_at-second.result c.in-Some.key h c.count_at-second.ensures.rest in omega (arith, k, one, other, fewer))
+      | inr h ↦ (let k = c.left-last.ensures.less h in omega (arith, k, one, other))
+    ] in
     less
 
 pub loop-key-preserved : goal.loop-key-preserved
@@ -77,8 +77,8 @@ loop-key-preserved c =
     let G : List Block → Type 0 = λ l. (w : Strand) → Among w (flat made) ↔ IsGreatest c.args.lists.now c.args.own (together (flat (take first one)) (flat l) here) w in
     let strands = subst G c.front-in-Some.ensures.blocks (subst F c.front.ensures.blocks c.in_ok-made.ensures.strands) in
     let more = joins_more c.args.lists.now c.args.own whole all one other c.loop-key.last c.loop-key.invariant key c.in-Some.ensures.0 c.in-Some.ensures.1 first second
-        c.count_at-first.ensures.at c.count_at-first.ensures.rest c.count_at-second.ensures.at c.count_at-second.ensures.rest here there c.taken.ensures c.left-last.ensures.strands
-        made c.in_ok-made.ensures.blocks c.in_ok-made.ensures.keyed strands in
+    c.count_at-first.ensures.at c.count_at-first.ensures.rest c.count_at-second.ensures.at c.count_at-second.ensures.rest here there c.taken.ensures c.left-last.ensures.strands
+    made c.in_ok-made.ensures.blocks c.in_ok-made.ensures.keyed strands in
     let P : List Block → Type 0 = λ l. Joins c.args.lists.now c.args.own whole l (drop first one) (drop second other) there in
     let Q : List Block → Type 0 = λ l. Joins c.args.lists.now c.args.own whole (values c.push_block.new.all.items) l (drop second other) there in
     let R : List Block → Type 0 = λ l. Joins c.args.lists.now c.args.own whole (values c.push_block.new.all.items) (values c.behind-one.result.now) l there in

@@ -1,5 +1,5 @@
-use Rattle.std.proofs.Common.{◌≡◌, ℕ, ◌<◌, List, [], ◌∷◌, length, ap, subst, sym, ◌∙◌}
-use Rattle.std.specs.Prelude.{◌↔◌, Option, option_to_list, IfSome}
+use Rattle.std.proofs.Common.{◌≡◌, ℕ, List, [], ◌∷◌, length, subst, sym}
+use Rattle.std.specs.Prelude.{◌↔◌, Option, option_to_list}
 use Rattle.std.specs.Arc.{arc_value}
 use Rattle.std.proofs.lemmas.Result.{IfOk-weaker}
 use Rattle.order_list.specs.Sides.{Lists}

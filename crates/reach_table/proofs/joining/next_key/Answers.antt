@@ -1,4 +1,4 @@
-use Rattle.std.proofs.Common.{◌≡◌, ℕ, ◌⊎◌, subst, sym}
+use Rattle.std.proofs.Common.{ℕ, ◌⊎◌, subst, sym}
 use Rattle.std.specs.Prelude.{Option}
 use Rattle.reach_table.specs.Blocks.{values}
 use Rattle.reach_table.specs.Joining.{IsLeast, HasKey, IsOfKey, IsNext}

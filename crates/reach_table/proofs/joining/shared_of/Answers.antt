@@ -1,12 +1,10 @@
-use Rattle.std.proofs.Common.{◌≡◌, ℕ, ◌<◌, List, [], ◌∷◌, length, ap, subst, sym, ◌∙◌}
+use Rattle.std.proofs.Common.{List, length, subst, sym}
 use Rattle.std.specs.Prelude.{◌↔◌}
-use Rattle.std.specs.Arc.{arc_value}
 use Rattle.fut_base.specs.Dag.{Among}
 use Rattle.strand_tree.specs.declared.strand.Strand.{Strand}
-use Rattle.reach_table.specs.declared.block.Block.{Block}
 use Rattle.reach_table.specs.Telling.{AllKnown}
 use Rattle.reach_table.specs.Merging.{together, IsGreatest}
-use Rattle.reach_table.specs.Blocks.{flat, values}
+use Rattle.reach_table.specs.Blocks.{values}
 use Rattle.reach_table.proofs.Blocks.{lone_value, some_of, lone_flat}
 use Rattle.reach_table.proofs.joining.shared_of.Goals as goal
 

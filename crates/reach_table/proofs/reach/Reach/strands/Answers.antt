@@ -5,4 +5,4 @@ use Rattle.reach_table.proofs.Blocks.{flat_rising}
 use Rattle.reach_table.proofs.reach.Reach.strands.Goals as goal
 
 pub returns-clause-rising : goal.returns-clause-rising
-returns-clause-rising c = subst IsRising c.blocks.ensures.strands (flat_rising (values c.blocks.result.now) c.blocks.ensures.blocks)
+returns-clause-rising c = subst IsRising c.blocks-2.ensures.strands (flat_rising (values c.blocks-2.result.now) c.blocks-2.ensures.blocks)
