@@ -8,6 +8,7 @@ pub mod Leaving
 pub mod Apart
 pub mod Agreeing
 pub mod Putting
+pub mod Masks
 pub mod Blocks
 pub mod Held
 pub mod Joins

@@ -1,5 +1,6 @@
 -- Blocks of a table: strands whose futures have 64 neighbouring numbers.
-use Rattle.std.specs.Prelude.{◌≡◌, ℕ, ◌/◌, ◌<◌, true, List, [], ◌∷◌, ◌++◌, map}
+use Rattle.std.specs.Prelude.{◌≡◌, ℕ, ◌/◌, ◌%◌, ◌<◌, ◌↔◌, true, List, [], ◌∷◌, ◌++◌, map}
+use Rattle.std.specs.Int.{bit_at}
 use Rattle.std.specs.declared.sync.Arc.{Arc}
 use Rattle.std.specs.Arc.{arc_value}
 use Rattle.fut_base.specs.Dag.{Among}
@@ -17,10 +18,15 @@ abbrev pub flat : List Block → List Strand
 flat [] = []
 flat (b ∷ bs) = b.strands.items ++ flat bs
 
--- a block has its strands in order, of its futures alone, and tells whether there is one of each at most
+-- bit n of the mask is set just where a strand is of a future whose number is n more than a multiple of 64
+abbrev pub IsMaskOf : ℕ → List Strand → Type 0
+IsMaskOf mask ws = (n : ℕ) → n < 64 → (bit_at mask n ≡ 1) ↔ ((w : Strand) × Among w ws × (w.future % 64 ≡ n))
+
+-- a block has its strands in order, of its futures alone, and tells which futures these are and whether there is one of each at most
 pub record IsBlock (b : Block) : Type 0 where
   pub rising : IsRising b.strands.items
   pub keyed : (w : Strand) → Among w b.strands.items → key_of w ≡ b.key
+  pub masked : IsMaskOf b.mask b.strands.items
   pub alone : b.alone ≡ true → HasOneOfEach b.strands.items
 
 -- the blocks of a table, each of lower futures than all after it

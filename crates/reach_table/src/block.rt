@@ -1,13 +1,13 @@
 //! Blocks of a table: strands whose futures have 64 neighbouring numbers.
-ghost use Rattle.std.specs.Prelude.{◌≡◌, ◌≢◌, ℕ, ◌+◌, ◌<◌, ◌≤◌, ◌/◌, ◌++◌, ◌↔◌, true, List, [], ◌∷◌, length, take, drop, option_to_list, IfOk, OnOk};
+ghost use Rattle.std.specs.Prelude.{◌≡◌, ◌≢◌, ℕ, ◌+◌, ◌<◌, ◌≤◌, ◌/◌, ◌%◌, ◌++◌, ◌↔◌, true, IsTrue, List, [], ◌∷◌, length, take, drop, option_to_list, IfOk, OnOk};
+ghost use Rattle.std.specs.Int.{bit_at};
 ghost use Rattle.fut_base.specs.Dag.{Among};
 ghost use Rattle.strand_tree.specs.declared.strand.Strand.{Strand};
 ghost use Rattle.reach_table.specs.Sorted.{IsRising};
 ghost use Rattle.reach_table.specs.Telling.{HasOneOfEach};
 ghost use Rattle.reach_table.specs.declared.block.Block.{Block};
-ghost use Rattle.reach_table.specs.Blocks.{key_of, flat, IsBlock, AreBlocks, values};
+ghost use Rattle.reach_table.specs.Blocks.{key_of, flat, IsMaskOf, IsBlock, AreBlocks, values};
 
-use crate::group::of_future;
 use crate::merging::{rises, union};
 use fut_base::list::NoMemory;
 use std::alloc::Global;
@@ -19,6 +19,8 @@ use strand_tree::Strand;
 pub struct Block {
     /// The numbers of the futures, divided by 64.
     pub key: u32,
+    /// Which of the 64 futures have strands here: bit n is of the one whose number is n more than a multiple of 64.
+    pub mask: u64,
     /// Whether there is one strand of each future at most.
     pub alone: bool,
     /// The strands, by future and then by number, each once.
@@ -48,12 +50,30 @@ pub fn strands_of(block: &[Shared]) -> &[Strand]
     block[0].strands.as_slice()
 }
 
+// Which of 64 futures these strands are of.
+fn mask_of(strands: &[Strand]) -> u64
+    ensures { IsMaskOf result strands.now }
+{
+    let mut mask = 0u64;
+    for w in strands {
+        mask |= 1 << (w.future % 64);
+    }
+    mask
+}
+
+// Whether a future is among those of a mask.
+fn has_future(mask: u64, future: u32) -> bool
+    ensures { IsTrue result ↔ (bit_at mask (future % 64) ≡ 1) }
+{
+    (mask >> (future % 64)) & 1 == 1
+}
+
 /// Whether none of a block's strands is of this future.
 pub fn lacks(block: &Block, future: u32) -> bool
     requires { IsBlock block.now }
     ensures { result ≡ true → (w : Strand) → Among w block.now.strands.items → w.future ≢ future }
 {
-    block.key != block_of_future(future) || of_future(block.strands.as_slice(), future).is_empty()
+    block.key != block_of_future(future) || !has_future(block.mask, future)
 }
 
 // Whether there is one strand of each future at most.
@@ -76,11 +96,13 @@ pub fn made_block(alloc: Global, key: u32, strands: Vec<Strand>) -> Result<Optio
     if strands.is_empty() {
         return Ok(None);
     }
+    let mask = mask_of(strands.as_slice());
     let alone = is_alone(strands.as_slice());
     let block = Arc::new(
         alloc,
         Block {
             key,
+            mask,
             alone,
             strands,
         },
