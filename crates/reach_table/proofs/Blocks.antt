@@ -187,3 +187,7 @@ lone_value (x ∷ y ∷ xs) r b few some is e = absurd (omega (arith, few))
 
 pub lone_flat : (bs : List Block) (b : Block) → bs ≡ b ∷ [] → flat bs ≡ b.strands.items
 lone_flat bs b is = ap flat is ∙ append-nil b.strands.items
+
+pub no_strand : {Z : Type 0} → (shared : List (Arc Block Z)) (w : Strand) → length shared ≡ 0 → Among w (flat (values shared)) → ⊥
+no_strand [] w e a = a
+no_strand (x ∷ xs) w e a = absurd (omega (arith, e))

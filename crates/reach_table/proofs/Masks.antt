@@ -28,9 +28,9 @@ module _ (mask : ℕ) (ws : List Strand) (i : ℕ) (d : Strand) (lt : i < length
   pub mask_more : IsMaskOf with_bit (take (i + 1) ws)
   mask_more n n_low = elim (same_or_not n bit) [
     | inl e ↦ (
-        λ _. (get_or ws i d, here, sym e),
-        λ _. (let P : ℕ → Type 0 = λ k. bit_at with_bit k ≡ 1 in subst P (sym e) (bit_at_set_same w64 mask bit low)),
-      )
+      λ _. (get_or ws i d, here, sym e),
+      λ _. (let P : ℕ → Type 0 = λ k. bit_at with_bit k ≡ 1 in subst P (sym e) (bit_at_set_same w64 mask bit low)),
+    )
     | inr ne ↦ (
         let same : bit_at with_bit n ≡ bit_at mask n = bit_at_set_other w64 mask bit low n ne in (
           λ h. (let k = (is n n_low).0 (sym same ∙ h) in (k.0, was k.0 k.1, k.2)),

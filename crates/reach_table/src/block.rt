@@ -8,6 +8,7 @@ ghost use Rattle.reach_table.specs.Telling.{HasOneOfEach};
 ghost use Rattle.reach_table.specs.declared.block.Block.{Block};
 ghost use Rattle.reach_table.specs.Blocks.{key_of, flat, IsMaskOf, IsBlock, AreBlocks, values};
 
+use crate::group::of_future;
 use crate::merging::{rises, union};
 use fut_base::list::NoMemory;
 use std::alloc::Global;
@@ -163,14 +164,28 @@ pub fn behind(blocks: &[Shared], count: usize) -> &[Shared]
     &blocks[count..]
 }
 
-/// The strands of block `key`, where it is there.
-pub fn block_strands(blocks: &[Shared], key: u32) -> &[Strand]
+// The block of these futures, where it is there.
+fn block_at(blocks: &[Shared], key: u32) -> &[Shared]
     requires { AreBlocks (values blocks.now) }
-    ensures rising { IsRising result.now }
-    ensures strands { (w : Strand) → Among w result.now ↔ (Among w (flat (values blocks.now)) × (key_of w ≡ key)) }
+    ensures few { length result.now ≤ 1 }
+    ensures blocks { AreBlocks (values result.now) }
+    ensures strands { (w : Strand) → Among w (flat (values result.now)) ↔ (Among w (flat (values blocks.now)) × (key_of w ≡ key)) }
 {
     let rest = behind(blocks, first_block(blocks, key));
-    strands_of(front(rest, count_at(rest, key)))
+    front(rest, count_at(rest, key))
+}
+
+/// The strands of a future.
+pub fn strands_of_future(blocks: &[Shared], future: u32) -> &[Strand]
+    requires { AreBlocks (values blocks.now) }
+    ensures rising { IsRising result.now }
+    ensures strands { (w : Strand) → Among w result.now ↔ (Among w (flat (values blocks.now)) × (w.future ≡ future)) }
+{
+    let block = block_at(blocks, block_of_future(future));
+    if block.is_empty() || lacks(&block[0], future) {
+        return &[];
+    }
+    of_future(strands_of(block), future)
 }
 
 /// Adds blocks at the end, which are shared.

@@ -9,8 +9,8 @@ ghost use Rattle.reach_table.specs.Blocks.{flat, values, AreBlocks};
 ghost use Rattle.reach_table.specs.Merging.{together, IsGreatest};
 ghost use Rattle.reach_table.specs.Tabled.{AfterSpawn, AfterCreate, KidAfterCreate, AfterGet, MergesOneMore};
 
-use crate::block::{Shared, all_strands, block_of_future, block_strands, with_one};
-use crate::group::{is_or_precedes, of_future, reaches_one};
+use crate::block::{Shared, all_strands, strands_of_future, with_one};
+use crate::group::{is_or_precedes, reaches_one};
 use crate::joining::join;
 use fut_base::list::NoMemory;
 use order_list::{Judge, Moved, Still};
@@ -138,8 +138,7 @@ impl Reach {
         if u.future == v.future {
             return is_or_precedes(judge, u, v);
         }
-        let strands = block_strands(self.blocks(), block_of_future(u.future));
-        reaches_one(judge, u, of_future(strands, u.future))
+        reaches_one(judge, u, strands_of_future(self.blocks(), u.future))
     }
 
     // A table of these blocks, with the same allocator.
