@@ -31,12 +31,31 @@ fn is_earlier(lists: &Still, x: Strand, w: Strand) -> bool
         && !precedes_by(lists, w, x)
 }
 
+// Whether these strands begin with the others. It looks at all of them, so that it can look at several at once.
+fn begins_with(strands: &[Strand], other: &[Strand]) -> bool
+    ensures { result ≡ true → (x : Strand) → Among x other.now → Among x strands.now }
+{
+    if strands.len() < other.len() {
+        return false;
+    }
+    let mut same = true;
+    for n in 0..other.len() {
+        if other[n] != strands[n] {
+            same = false;
+        }
+    }
+    same
+}
+
 // Whether for each of the other strands one of these is it, or a later one of its future.
 fn holds(lists: &Still, strands: &[Strand], other: &[Strand]) -> bool
     requires strands_in { AllKnown (length lists.now.english.order) strands.now }
     requires other_in { AllKnown (length lists.now.english.order) other.now }
     ensures { result ≡ true → HoldsAll lists.now strands.now other.now }
 {
+    if begins_with(strands, other) {
+        return true;
+    }
     let mut i = 0;
     let mut j = 0;
     while i < strands.len() && j < other.len() {

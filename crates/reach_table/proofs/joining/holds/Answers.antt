@@ -1,4 +1,4 @@
-use Rattle.std.proofs.Common.{ℕ, get_or, take, inl, inr, subst, sym, arith}
+use Rattle.std.proofs.Common.{ℕ, get_or, take, inl, inr, refl, subst, sym, arith}
 use Rattle.strand_tree.specs.declared.strand.Strand.{Strand}
 use Rattle.reach_table.specs.Joining.{HoldsAll}
 use Rattle.reach_table.proofs.Members.{at_place, equal_strands}
@@ -39,3 +39,6 @@ loop-i-preserved c =
         held = subst P (sym w.j-is) v.held;
       }
     ]
+
+pub returns-then-begins_with : goal.returns-then-begins_with
+returns-then-begins_with c = λ _ x a. (x, c.begins_with.ensures c.if-begins_with.true x a, inl refl)
