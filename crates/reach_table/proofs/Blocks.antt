@@ -1,12 +1,11 @@
 -- Blocks, their strands and their order.
-use Rattle.std.proofs.Common.{◌≡◌, ◌≢◌, ℕ, zero, suc, ◌+◌, ◌-◌, ◌<◌, ◌≤◌, ◌==◌, Bool, true, false, true≢false, List, [], ◌∷◌, ◌++◌, length, get_or, take, drop, inl, inr, refl, subst, sym, ap, arith, ◌∙◌}
+use Rattle.std.proofs.Common.{◌≡◌, ◌≢◌, ℕ, zero, suc, ◌+◌, ◌-◌, ◌<◌, ◌≤◌, ◌==◌, Bool, false, true≢false, List, [], ◌∷◌, ◌++◌, length, get_or, take, drop, inl, inr, refl, subst, sym, ap, arith, ◌∙◌}
 use Rattle.std.proofs.lemmas.List.{append_assoc, append-nil, take-append-drop, length-map, map_more}
 use Rattle.std.proofs.Math.ListN.{get_or-map}
 use Rattle.std.specs.declared.sync.Arc.{Arc}
 use Rattle.std.specs.Arc.{arc_value}
 use Rattle.fut_base.specs.Dag.{Among}
 use Rattle.strand_laws.proofs.Places.{among_or, among_left, among_right}
-use Rattle.strand_laws.proofs.Held.{is_eq}
 use Rattle.strand_tree.specs.declared.strand.Strand.{Strand}
 use Rattle.reach_table.specs.declared.block.Block.{Block}
 use Rattle.reach_table.specs.Sorted.{IsBelow, IsRising}
@@ -166,10 +165,6 @@ one_each (x ∷ xs) r up w y (inr a) (inr b) e = one_each xs r.1 (λ n z lt. (
     let P : ℕ → Type 0 = λ m. (strand_at xs n).future < (strand_at (x ∷ xs) m).future in
     let same : suc n + 1 ≡ suc (n + 1) = omega arith in
     subst P same (up (suc n) (omega arith) (omega (arith, lt))))) w y a b e
-
-pub none_of : (ws : List Strand) → (length ws == 0) ≡ true → (w : Strand) → Among w ws → ⊥
-none_of [] h w a = a
-none_of (x ∷ xs) h w a = let k : length (x ∷ xs) ≡ 0 = is_eq (length (x ∷ xs)) 0 h in omega (arith, k)
 
 pub no_block : {Z : Type 0} → (shared : List (Arc Block Z)) (key : ℕ) → length shared ≡ 0 → (b : Block) → Among b (values shared) → key < b.key
 no_block [] key e b a = absurd a

@@ -14,9 +14,6 @@ use Rattle.reach_table.specs.Joining.{IsEarlier, HoldsAll, IsLeast, lesser_of}
 use Rattle.reach_table.proofs.Members.{in_more}
 use Rattle.reach_table.proofs.Putting.{greatest_same}
 
-pub holds_none : (lists : Lists) (ws xs : List Strand) → HoldsAll lists ws (take 0 xs)
-holds_none lists ws xs x a = absurd a
-
 -- one more strand for which one of these stands
 pub holds_more : (lists : Lists) (ws xs : List Strand) (j : ℕ) (d w : Strand) → j < length xs → HoldsAll lists ws (take j xs) → Among w ws → (get_or xs j d ≡ w) ⊎ IsEarlier lists (get_or xs j d) w → HoldsAll lists ws (take (j + 1) xs)
 holds_more lists ws xs j d w lt held here new x a = elim (in_more xs j d lt x a) [

@@ -1,5 +1,5 @@
 //! Blocks of a table: strands whose futures have 64 neighbouring numbers.
-ghost use Rattle.std.specs.Prelude.{◌≡◌, ◌≢◌, ℕ, ◌+◌, ◌<◌, ◌≤◌, ◌/◌, ◌%◌, ◌++◌, ◌↔◌, true, IsTrue, List, [], ◌∷◌, length, take, drop, option_to_list, IfOk, OnOk};
+ghost use Rattle.std.specs.Prelude.{◌≡◌, ◌≢◌, ◌+◌, ◌<◌, ◌≤◌, ◌/◌, ◌%◌, ◌++◌, ◌↔◌, true, IsTrue, [], ◌∷◌, length, take, drop, option_to_list, IfOk, OnOk};
 ghost use Rattle.std.specs.Int.{bit_at};
 ghost use Rattle.fut_base.specs.Dag.{Among};
 ghost use Rattle.strand_tree.specs.declared.strand.Strand.{Strand};
