@@ -24,7 +24,8 @@ same_kind k l h = cc
 
 -- a test of the cell
 if_cell : (cell c : ℕ) (k l : Kind) → (if cell == c then Some k else None) ≡ Some l → (cell ≡ c) × (k ≡ l)
-if_cell cell c k l = by_eq (λ b. (if b then Some k else None) ≡ Some l → (cell ≡ c) × (k ≡ l)) cell c (λ e h. (e, same_kind k l h)) (λ ne h. absurd (no_kind l h))
+if_cell cell c k l = by_eq (λ b. (if b then Some k else None) ≡ Some l → (cell ≡ c) × (k ≡ l)) cell c (λ e h. (e, same_kind k l h))
+    (λ ne h. absurd (no_kind l h))
 
 on_cell : (cell c : ℕ) (k : Kind) → cell ≡ c → (if cell == c then Some k else None) ≡ Some k
 on_cell cell c k e = by_eq (λ b. (if b then Some k else None) ≡ Some k) cell c (λ _. refl) (λ ne. absurd (ne e))
@@ -82,13 +83,17 @@ module _ (h : List Event) (c : ℕ) where
           record {
             one = is_access c x.0.action a.kind x.3;
             other = is_access c y.0.action b.kind y.3;
-            write = elim (one_writes (is_write a.kind) (is_write b.kind) r.conflict) [ inl w ↦ inl (does_write c x.0.action a.kind x.3 w) | inr w ↦ inr (does_write c y.0.action b.kind y.3 w) ];
+            write = elim (one_writes (is_write a.kind) (is_write b.kind) r.conflict) [
+              | inl w ↦ inl (does_write c x.0.action a.kind x.3 w)
+              | inr w ↦ inr (does_write c y.0.action b.kind y.3 w)
+            ];
             apart = λ j. r.apart (subst (λ n. AreJoinedBy (edges_of h) n b.strand) x.2 (subst (λ n. AreJoinedBy (edges_of h) x.0.strand n) y.2 j));
           },
         );
       }
 
-  pub to_accesses : (i j : ℕ) → PlacesRace h c i j → (a : Touch Kind) × (b : Touch Kind) × AreRacing Kind kinds (edges_of h) (touches_of c h) a b × (a.place ≡ i) × (b.place ≡ j)
+  pub to_accesses : (i j : ℕ) → PlacesRace h c i j
+      → (a : Touch Kind) × (b : Touch Kind) × AreRacing Kind kinds (edges_of h) (touches_of c h) a b × (a.place ≡ i) × (b.place ≡ j)
   to_accesses i j r =
       let x = r.events.0 in
       let y = r.events.1 in
@@ -108,7 +113,8 @@ module _ (h : List Event) (c : ℕ) where
         refl,
       )
 
-  back : (i j : ℕ) → ((a : Touch Kind) × (b : Touch Kind) × AreRacing Kind kinds (edges_of h) (touches_of c h) a b × (a.place ≡ i) × (b.place ≡ j)) → PlacesRace h c i j
+  back : (i j : ℕ) → ((a : Touch Kind) × (b : Touch Kind) × AreRacing Kind kinds (edges_of h) (touches_of c h) a b × (a.place ≡ i) × (b.place ≡ j))
+      → PlacesRace h c i j
   back i j f = subst (λ n. PlacesRace h c n j) f.3 (subst (λ n. PlacesRace h c f.0.place n) f.4 (to_history f.0 f.1 f.2))
 
   pub pair_to_accesses : (i j : ℕ) → racing.IsFirstPair h c i j → IsFirstPair Kind kinds (edges_of h) (touches_of c h) i j
@@ -137,4 +143,5 @@ pub kept_tells_races : KeptTellsRaces
 kept_tells_races h c (Clean writer readers) k = λ i j r. (
     let f = to_accesses h c i j r in
     k.0 f.0 f.1 (subst (λ es. AreRacing Kind kinds es (touches_of c h) f.0 f.1) (sym (structure_has_edges h)) f.2))
-kept_tells_races h c (Found first second) k = pair_to_history h c first second (subst (λ es. IsFirstPair Kind kinds es (touches_of c h) first second) (structure_has_edges h) k)
+kept_tells_races h c (Found first second) k = pair_to_history h c first second
+    (subst (λ es. IsFirstPair Kind kinds es (touches_of c h) first second) (structure_has_edges h) k)

@@ -51,14 +51,16 @@ pub record AreJoined (s : List Event) (places : Placed) (task : ℕ) (doer : Doe
 abbrev pub GetsOne : Placed → Doer → List Strand → Placed → Doer → Type 0
 GetsOne places doer table places' doer' =
     (s : List Event) (task future : ℕ) (value : Value) → IsSound (and_then s task doer.at.number (Gets future value doer'.at.number))
-    → AreOrders s places.english places.hebrew → IsDoerOf s task doer → HasTable (and_then s task doer.at.number (Gets future value doer'.at.number)) doer'.at.number table
+    → AreOrders s places.english places.hebrew → IsDoerOf s task doer
+    → HasTable (and_then s task doer.at.number (Gets future value doer'.at.number)) doer'.at.number table
     → AreJoined (and_then s task doer.at.number (Gets future value doer'.at.number)) places' task doer'
 
 -- the same where it goes on after a sync, and this is the last strand of its block's first child
 abbrev pub SyncsOne : Placed → Doer → List Strand → Option Strand → Placed → Doer → Type 0
 SyncsOne places doer table last places' doer' =
     (s : List Event) (task : ℕ) → IsSound (and_then s task doer.at.number (Syncs doer'.at.number))
-    → AreOrders s places.english places.hebrew → IsDoerOf s task doer → IsLastOfFirst s task last → HasTable (and_then s task doer.at.number (Syncs doer'.at.number)) doer'.at.number table
+    → AreOrders s places.english places.hebrew → IsDoerOf s task doer → IsLastOfFirst s task last
+    → HasTable (and_then s task doer.at.number (Syncs doer'.at.number)) doer'.at.number table
     → AreJoined (and_then s task doer.at.number (Syncs doer'.at.number)) places' task doer'
 
 -- two lists and tasks are those of some sound structural events

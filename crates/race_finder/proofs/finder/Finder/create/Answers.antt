@@ -28,14 +28,16 @@ create_one-requires-clause-english c =
     let r = c.requires in
     let f = c.args.self.now in
     in_english r.0 r.1 f.places.english f.places.hebrew f.doers.items f.logs.items f.count c.args.task r.3 r.4 r.2.task_is
-    c.reserve-2.new.self.items c.index_mut.result.now c.reserve.new.self.english c.in_ok-reserve-2.ensures.items c.index_mut.ensures.value c.in_ok-reserve.ensures.english
+    c.reserve-2.new.self.items c.index_mut.result.now c.reserve.new.self.english c.in_ok-reserve-2.ensures.items c.index_mut.ensures.value
+    c.in_ok-reserve.ensures.english
 
 pub create_one-requires-clause-hebrew : goal.create_one-requires-clause-hebrew
 create_one-requires-clause-hebrew c =
     let r = c.requires in
     let f = c.args.self.now in
     in_hebrew r.0 r.1 f.places.english f.places.hebrew f.doers.items f.logs.items f.count c.args.task r.3 r.4 r.2.task_is
-    c.reserve-2.new.self.items c.index_mut.result.now c.reserve.new.self.hebrew c.in_ok-reserve-2.ensures.items c.index_mut.ensures.value c.in_ok-reserve.ensures.hebrew
+    c.reserve-2.new.self.items c.index_mut.result.now c.reserve.new.self.hebrew c.in_ok-reserve-2.ensures.items c.index_mut.ensures.value
+    c.in_ok-reserve.ensures.hebrew
 
 pub returns-in_err-kid-clause-stays : goal.returns-in_err-kid-clause-stays
 returns-in_err-kid-clause-stays c =
@@ -45,13 +47,15 @@ returns-in_err-kid-clause-stays c =
     let doers = f.doers.items in
     let d = c.index_mut.result.now in
     let items = c.in_ok-reserve-2.ensures.items in
-    let at = looked_up r.0 r.1 f.places.english f.places.hebrew f.doers.items f.logs.items f.count c.args.task r.3 r.4 r.2.task_is c.reserve-2.new.self.items d items c.index_mut.ensures.value in
+    let at = looked_up r.0 r.1 f.places.english f.places.hebrew f.doers.items f.logs.items f.count c.args.task r.3 r.4 r.2.task_is c.reserve-2.new.self.items d
+    items c.index_mut.ensures.value in
     let places = c.create_one.new.places in
     let en = ap (λ (q : Placed). q.english) c.in_err-kid.ensures.unchanged ∙ c.in_ok-reserve.ensures.english in
     let he = ap (λ (q : Placed). q.hebrew) c.in_err-kid.ensures.unchanged ∙ c.in_ok-reserve.ensures.hebrew in
     rw p.1 (λ h k.
     subst (λ (l : List Doer). Knows h places.english places.hebrew (set l c.args.task c.create_one.new.doer) f.logs.items f.count) (sym items)
-    (same_known h f.places.english f.places.hebrew places.english places.hebrew doers f.logs.items f.count c.args.task d c.create_one.new.doer k at c.in_err-kid.ensures.same en he))
+    (same_known h f.places.english f.places.hebrew places.english places.hebrew doers f.logs.items f.count c.args.task d c.create_one.new.doer k at
+    c.in_err-kid.ensures.same en he))
 
 pub returns-clause-takes : goal.returns-clause-takes
 returns-clause-takes c = λ h e p k steps.
@@ -61,7 +65,9 @@ returns-clause-takes c = λ h e p k steps.
     let d' = c.create_one.new.doer in
     let kid = c.in_ok-kid.kid in
     let items = c.in_ok-reserve-2.ensures.items in
-    let at = looked_up h e f.places.english f.places.hebrew doers f.logs.items f.count c.args.task k steps p.task_is c.reserve-2.new.self.items d items c.index_mut.ensures.value in
-    create_taken h e steps f.places.english f.places.hebrew doers f.logs.items f.count k c.args.task c.args.child c.reserve.new.self c.create_one.new.places d d' kid c.push_reserved.new.self.items (f.count + 1) p
+    let at = looked_up h e f.places.english f.places.hebrew doers f.logs.items f.count c.args.task k steps p.task_is c.reserve-2.new.self.items d
+    items c.index_mut.ensures.value in
+    create_taken h e steps f.places.english f.places.hebrew doers f.logs.items f.count k c.args.task c.args.child c.reserve.new.self c.create_one.new.places d
+    d' kid c.push_reserved.new.self.items (f.count + 1) p
     c.in_ok-reserve.ensures.english c.in_ok-reserve.ensures.hebrew at c.in_ok-kid.ensures.numbers c.in_ok-kid.ensures.creates
     (c.push_reserved.ensures.items ∙ ap (λ (l : List Doer). set l c.args.task d' ++ kid ∷ []) items) refl
