@@ -131,9 +131,3 @@ moved_on g {r = r} moved before m =
 -- stands where a list has no access
 abbrev pub no_access : Access
 no_access = record { place = 0; strand = record { number = 0; future = 0 } }
-
--- an access at a place of a list is one of the list
-pub at_place : {X : Type 0} → (xs : List X) (i : ℕ) (d : X) → i < length xs → Among (get_or xs i d) xs
-at_place xs i d lt = subst (λ l. Among (get_or xs i d) l) (take-append-drop (i + 1) xs)
-    (among_left (get_or xs i d) (take (i + 1) xs) (drop (i + 1) xs)
-    (subst (λ l. Among (get_or xs i d) l) (sym (take_more xs i d lt)) (among_right (get_or xs i d) (take i xs) (get_or xs i d ∷ []) (inl refl))))
