@@ -22,7 +22,8 @@ use Rattle.race_finder.specs.declared.forks.Fork.{Fork}
 use Rattle.race_finder.specs.declared.forks.Fork.TheVariants as fork
 use Rattle.race_finder.specs.Places.{Placed}
 use Rattle.race_finder.specs.Finding.{last_if, IsDoerOf, AreDoersOf, Knows, IsSpawnBy, IsCreateBy, IsForkBy, IsGetBy, IsSyncBy}
-use Rattle.race_finder.specs.Acting.{AreForked, SpawnsOne, CreatesOne, ForksOne, AreJoined, GetsOne, SyncsOne, AreOf, MaySync, TableAfterGet, TableOfBlock, IsSameDoer}
+use Rattle.race_finder.specs.Acting.{AreForked, SpawnsOne, CreatesOne, ForksOne, AreJoined, GetsOne, SyncsOne, AreOf, MaySync, TableAfterGet, TableOfBlock}
+use Rattle.race_finder.specs.Acting.{IsSameDoer}
 use Rattle.race_finder.proofs.Lists.{set_get}
 use Rattle.access_shards.proofs.Histories.{by_structure}
 use Rattle.race_finder.proofs.Accesses.{strands_in}

@@ -18,24 +18,27 @@ reserve-requires c =
 pub index_mut-requires : goal.index_mut-requires
 index_mut-requires c =
     let r = c.requires in
+    let is = fork_task c.args.fork c.args.task c.args.child r.1 r.2 in
     let f = c.args.self.now in
-    let lt = task_in r.0 r.1 f.places.english f.places.hebrew f.doers.items f.logs.items f.count c.args.task r.3 r.4 (fork_task c.args.fork c.args.task c.args.child r.1 r.2) in
+    let lt = task_in r.0 r.1 f.places.english f.places.hebrew f.doers.items f.logs.items f.count c.args.task r.3 r.4 is in
     let same = ap (length {A = Doer}) c.in_ok-reserve-2.ensures.items in
     omega (arith, lt, same, c.reserve-2.new.self.ok.0)
 
 pub fork_one-requires-clause-english : goal.fork_one-requires-clause-english
 fork_one-requires-clause-english c =
     let r = c.requires in
+    let is = fork_task c.args.fork c.args.task c.args.child r.1 r.2 in
     let f = c.args.self.now in
-    in_english r.0 r.1 f.places.english f.places.hebrew f.doers.items f.logs.items f.count c.args.task r.3 r.4 (fork_task c.args.fork c.args.task c.args.child r.1 r.2)
+    in_english r.0 r.1 f.places.english f.places.hebrew f.doers.items f.logs.items f.count c.args.task r.3 r.4 is
     c.reserve-2.new.self.items c.index_mut.result.now c.reserve.new.self.english c.in_ok-reserve-2.ensures.items c.index_mut.ensures.value
     c.in_ok-reserve.ensures.english
 
 pub fork_one-requires-clause-hebrew : goal.fork_one-requires-clause-hebrew
 fork_one-requires-clause-hebrew c =
     let r = c.requires in
+    let is = fork_task c.args.fork c.args.task c.args.child r.1 r.2 in
     let f = c.args.self.now in
-    in_hebrew r.0 r.1 f.places.english f.places.hebrew f.doers.items f.logs.items f.count c.args.task r.3 r.4 (fork_task c.args.fork c.args.task c.args.child r.1 r.2)
+    in_hebrew r.0 r.1 f.places.english f.places.hebrew f.doers.items f.logs.items f.count c.args.task r.3 r.4 is
     c.reserve-2.new.self.items c.index_mut.result.now c.reserve.new.self.hebrew c.in_ok-reserve-2.ensures.items c.index_mut.ensures.value
     c.in_ok-reserve.ensures.hebrew
 
@@ -43,11 +46,12 @@ pub returns-in_err-kid-clause-stays : goal.returns-in_err-kid-clause-stays
 returns-in_err-kid-clause-stays c =
     let p = err_from_is_err_and c.from_residual-in_err-kid.result c.from_residual-in_err-kid.ensures.1 in
     let r = c.requires in
+    let is = fork_task c.args.fork c.args.task c.args.child r.1 r.2 in
     let f = c.args.self.now in
     let doers = f.doers.items in
     let d = c.index_mut.result.now in
     let items = c.in_ok-reserve-2.ensures.items in
-    let at = looked_up r.0 r.1 f.places.english f.places.hebrew f.doers.items f.logs.items f.count c.args.task r.3 r.4 (fork_task c.args.fork c.args.task c.args.child r.1 r.2) c.reserve-2.new.self.items d
+    let at = looked_up r.0 r.1 f.places.english f.places.hebrew f.doers.items f.logs.items f.count c.args.task r.3 r.4 is c.reserve-2.new.self.items d
     items c.index_mut.ensures.value in
     let places = c.fork_one.new.places in
     let en = ap (λ (q : Placed). q.english) c.in_err-kid.ensures.unchanged ∙ c.in_ok-reserve.ensures.english in
@@ -59,15 +63,17 @@ returns-in_err-kid-clause-stays c =
 
 pub returns-clause-takes : goal.returns-clause-takes
 returns-clause-takes c = λ h e p k steps.
+    let is = fork_task c.args.fork c.args.task c.args.child e p in
     let f = c.args.self.now in
     let doers = f.doers.items in
     let d = c.index_mut.result.now in
     let d' = c.fork_one.new.doer in
     let kid = c.in_ok-kid.kid in
     let items = c.in_ok-reserve-2.ensures.items in
-    let at = looked_up h e f.places.english f.places.hebrew doers f.logs.items f.count c.args.task k steps (fork_task c.args.fork c.args.task c.args.child e p) c.reserve-2.new.self.items d
+    let at = looked_up h e f.places.english f.places.hebrew doers f.logs.items f.count c.args.task k steps is c.reserve-2.new.self.items d
     items c.index_mut.ensures.value in
-    fork_taken h e steps f.places.english f.places.hebrew doers f.logs.items f.count k c.args.fork c.args.task c.args.child c.reserve.new.self c.fork_one.new.places d
+    fork_taken h e steps f.places.english f.places.hebrew doers f.logs.items f.count k c.args.fork c.args.task c.args.child
+    c.reserve.new.self c.fork_one.new.places d
     d' kid c.push_reserved.new.self.items (f.count + 1) p
     c.in_ok-reserve.ensures.english c.in_ok-reserve.ensures.hebrew at c.in_ok-kid.ensures.numbers c.in_ok-kid.ensures.forks
     (c.push_reserved.ensures.items ∙ ap (λ (l : List Doer). set l c.args.task d' ++ kid ∷ []) items) refl
