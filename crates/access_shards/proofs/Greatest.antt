@@ -6,9 +6,11 @@ use Rattle.access_shards.specs.Touches.{Touch, Kinds, WritesConflict, IsRising, 
 use Rattle.access_shards.specs.Laws.{KeptIsEnough}
 use Rattle.access_shards.proofs.Enough.{reach_on, one_at, last_write, reached, enough}
 
-module _ (K : Type 0) (kinds : Kinds K) (es : List (ℕ × ℕ)) (past : List (Touch K)) (x : Touch K) (strong : WritesConflict K kinds) (rising : IsRising (x ∷ past)) (late : IsLate es (x ∷ past)) (calm : HasNoRace K kinds es past) where
+module _ (K : Type 0) (kinds : Kinds K) (es : List (ℕ × ℕ)) (past : List (Touch K)) (x : Touch K) (strong : WritesConflict K kinds)
+    (rising : IsRising (x ∷ past)) (late : IsLate es (x ∷ past)) (calm : HasNoRace K kinds es past) where
   -- a later access that conflicts with x, and that one is joined with which x is not joined with, is not joined with x
-  apart_on : (g u : Touch K) → Among g past → Among u past → g.place < u.place → AreJoinedBy es g.strand u.strand → (AreJoinedBy es g.strand x.strand → ⊥) → AreJoinedBy es u.strand x.strand → ⊥
+  apart_on : (g u : Touch K) → Among g past → Among u past → g.place < u.place → AreJoinedBy es g.strand u.strand → (AreJoinedBy es g.strand x.strand → ⊥)
+      → AreJoinedBy es u.strand x.strand → ⊥
   apart_on g u hg hu lt j apart k =
       apart
       (inl (reach_on es g.strand u.strand x.strand (reached K kinds es past x strong rising late g u (inr hg) (inr hu) lt j)

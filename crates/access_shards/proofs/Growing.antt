@@ -21,7 +21,8 @@ use Rattle.access_shards.proofs.Rising.{readers_apart}
 use Rattle.access_shards.specs.Laws.{AreOn, KeptStays, LogStays, LateStays, CurrentMayCome}
 
 -- further events make no strand less and change no strand's future
-pub more_strands : (later past : List Event) → IsSoundPast (later ++ past) → (v : ℕ) → v < next_strand past → (next_strand past ≤ next_strand (later ++ past)) × (home_of (later ++ past) v ≡ home_of past v)
+pub more_strands : (later past : List Event) → IsSoundPast (later ++ past) → (v : ℕ) → v < next_strand past
+    → (next_strand past ≤ next_strand (later ++ past)) × (home_of (later ++ past) v ≡ home_of past v)
 more_strands [] past sound v lt = (omega arith, refl)
 more_strands (e ∷ later) past sound v lt =
     let k = more_strands later past sound.0 v lt in
@@ -32,10 +33,12 @@ module _ (s more : List Event) (sound : IsSound (s ++ more)) where
   whole = subst IsSoundPast (reverse-append s more) sound
 
   -- paths between old strands
-  pub same_paths : (u v : ℕ) → v < next_strand (reverse s) → (ReachesBy (edges_of (s ++ more)) u v → ReachesBy (edges_of s) u v) × (ReachesBy (edges_of s) u v → ReachesBy (edges_of (s ++ more)) u v)
+  pub same_paths : (u v : ℕ) → v < next_strand (reverse s)
+      → (ReachesBy (edges_of (s ++ more)) u v → ReachesBy (edges_of s) u v) × (ReachesBy (edges_of s) u v → ReachesBy (edges_of (s ++ more)) u v)
   same_paths u v lt =
       let k = paths_are_kept (reverse more) (reverse s) whole u v lt in
-      subst (λ past. (ReachesBy (edges_past past) u v → ReachesBy (edges_of s) u v) × (ReachesBy (edges_of s) u v → ReachesBy (edges_past past) u v)) (sym (reverse-append s more)) (k.0, k.1)
+      subst (λ past. (ReachesBy (edges_past past) u v → ReachesBy (edges_of s) u v) × (ReachesBy (edges_of s) u v → ReachesBy (edges_past past) u v))
+      (sym (reverse-append s more)) (k.0, k.1)
 
   pub strand_stays : (v : Strand) → IsStrandOf s v → IsStrandOf (s ++ more) v
   strand_stays v of =
@@ -45,11 +48,13 @@ module _ (s more : List Event) (sound : IsSound (s ++ more)) where
       record { there = r.0; future_is = r.1 }
 
   module _ (past : List (Touch Kind)) (on : AreOn s past) where
-    joined_back : (a b : Touch Kind) → Among a past → Among b past → AreJoinedBy (edges_of (s ++ more)) a.strand b.strand → AreJoinedBy (edges_of s) a.strand b.strand
+    joined_back : (a b : Touch Kind) → Among a past → Among b past → AreJoinedBy (edges_of (s ++ more)) a.strand b.strand
+        → AreJoinedBy (edges_of s) a.strand b.strand
     joined_back a b ha hb (inl r) = inl ((same_paths a.strand b.strand (on b hb)).0 r)
     joined_back a b ha hb (inr r) = inr ((same_paths b.strand a.strand (on a ha)).0 r)
 
-    joined_on : (a b : Touch Kind) → Among a past → Among b past → AreJoinedBy (edges_of s) a.strand b.strand → AreJoinedBy (edges_of (s ++ more)) a.strand b.strand
+    joined_on : (a b : Touch Kind) → Among a past → Among b past → AreJoinedBy (edges_of s) a.strand b.strand
+        → AreJoinedBy (edges_of (s ++ more)) a.strand b.strand
     joined_on a b ha hb (inl r) = inl ((same_paths a.strand b.strand (on b hb)).1 r)
     joined_on a b ha hb (inr r) = inr ((same_paths b.strand a.strand (on a ha)).1 r)
 
@@ -60,10 +65,20 @@ module _ (s more : List Event) (sound : IsSound (s ++ more)) where
     race_back a b r = record { one = r.one; other = r.other; order = r.order; conflict = r.conflict; apart = λ j. r.apart (joined_on a b r.one r.other j) }
 
     latest_on : (t : Touch Kind) → IsLatest Kind kinds (edges_of s) past reading t → IsLatest Kind kinds (edges_of (s ++ more)) past reading t
-    latest_on t l = record { there = l.there; kind_is = l.kind_is; after = l.after; latest = λ u hu ku lt j. l.latest u hu ku lt (joined_back t u l.there hu j) }
+    latest_on t l = record {
+      there = l.there;
+      kind_is = l.kind_is;
+      after = l.after;
+      latest = λ u hu ku lt j. l.latest u hu ku lt (joined_back t u l.there hu j);
+    }
 
     latest_back : (t : Touch Kind) → IsLatest Kind kinds (edges_of (s ++ more)) past reading t → IsLatest Kind kinds (edges_of s) past reading t
-    latest_back t l = record { there = l.there; kind_is = l.kind_is; after = l.after; latest = λ u hu ku lt j. l.latest u hu ku lt (joined_on t u l.there hu j) }
+    latest_back t l = record {
+      there = l.there;
+      kind_is = l.kind_is;
+      after = l.after;
+      latest = λ u hu ku lt j. l.latest u hu ku lt (joined_on t u l.there hu j);
+    }
 
     shows_on : (a : Access) (t : Touch Kind) → Shows s a t → Shows (s ++ more) a t
     shows_on a t h = record { place_is = h.place_is; number_is = h.number_is; strand_of = strand_stays a.strand h.strand_of }
@@ -94,15 +109,18 @@ kept_stays s more past (Clean writer readers) sound on k =
 kept_stays s more past (Found i j) sound on k = pair_on s more sound past on i j k
 
 -- strands keep their order
-stands_on : (s more : List Event) → IsSound (s ++ more) → (u v : Strand) → IsStrandOf s u → IsStrandOf s v → u.number ≢ v.number → StandsFirst s u v → StandsFirst (s ++ more) u v
+stands_on : (s more : List Event) → IsSound (s ++ more) → (u v : Strand) → IsStrandOf s u → IsStrandOf s v → u.number ≢ v.number → StandsFirst s u v
+    → StandsFirst (s ++ more) u v
 stands_on s more sound u v ou ov ne h =
-    let same = orders_stay s more (next_strand (reverse s)) (english_of (s ++ more)) (hebrew_of (s ++ more)) sound (record { english_is = refl; hebrew_is = refl }) in
+    let same = orders_stay s more (next_strand (reverse s)) (english_of (s ++ more)) (hebrew_of
+    (s ++ more)) sound (record { english_is = refl; hebrew_is = refl }) in
     record {
       future_is = h.future_is;
       first = same.first u.number v.number (record { less = ou.there; there = ou.there }) (record { less = ov.there; there = ov.there }) ne ∙ h.first;
     }
 
-rise_stays : (s more : List Event) → IsSound (s ++ more) → (past : List (Touch Kind)) (kept : Kept) → IsKept s past kept → RiseInEnglish s (reads_of kept) → RiseInEnglish (s ++ more) (reads_of kept)
+rise_stays : (s more : List Event) → IsSound (s ++ more) → (past : List (Touch Kind)) (kept : Kept) → IsKept s past kept → RiseInEnglish s (reads_of kept)
+    → RiseInEnglish (s ++ more) (reads_of kept)
 rise_stays s more sound past (Found i j) k rise a b ha hb lt = absurd ha
 rise_stays s more sound past (Clean writer readers) k rise a b ha hb lt =
     stands_on s more sound a.strand b.strand (k.2.each a ha).2.strand_of (k.2.each b hb).2.strand_of
@@ -125,7 +143,8 @@ current_may_come s past task at place kind sound on late stands runs rising =
     go : IsLate (edges_of s) (x ∷ past)
     go a b (inr ha) (inr hb) lt r = late a b ha hb lt r
     go a b (inl ea) (inr hb) lt r = let p = ap (λ (t : Touch Kind). t.place) ea in let q = rising.0 b hb in absurd (omega (arith, p, q, lt))
-    go a b (inl ea) (inl eb) lt r = let p = ap (λ (t : Touch Kind). t.place) ea in let q = ap (λ (t : Touch Kind). t.place) eb in absurd (omega (arith, p, q, lt))
+    go a b (inl ea) (inl eb) lt r = let p = ap (λ (t : Touch Kind). t.place) ea in let q = ap (λ (t : Touch Kind). t.place) eb in
+        absurd (omega (arith, p, q, lt))
     go a b (inr ha) (inl eb) lt r =
         let e = ap (λ (t : Touch Kind). t.strand) eb in
         current_ends_paths (reverse s) sound task at.number a.strand stands runs (subst (λ n. ReachesBy (edges_of s) n a.strand) (sym e) r) ∙ e

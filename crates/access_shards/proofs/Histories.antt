@@ -1,5 +1,7 @@
 -- The accesses of a cell in a history: their places, their races, and that no path leads back.
-use Rattle.std.proofs.Common.{◌≡◌, ℕ, ◌<◌, ◌≤◌, Bool, true, false, cond, List, [], ◌∷◌, ◌++◌, length, reverse, filter, ◌⊎◌, inl, inr, subst, ap, sym, refl, ◌∙◌, arith, append_assoc, option_to_list, option_map, slice_get, ◌==◌, ◌&&◌, if◌then◌else◌, length-append}
+use Rattle.std.proofs.Common.{◌≡◌, ℕ, ◌<◌, ◌≤◌, Bool, true, false, cond, List, [], ◌∷◌, ◌++◌, length, reverse, filter, ◌⊎◌, inl, inr, subst, ap, sym, refl, ◌∙◌}
+use Rattle.std.proofs.lemmas.Option.{none-some}
+use Rattle.std.proofs.Common.{arith, append_assoc, option_to_list, option_map, slice_get, ◌==◌, ◌&&◌, if◌then◌else◌, length-append}
 use Rattle.std.specs.Prelude.{Option, Some, None}
 use Rattle.std.proofs.lemmas.Bool.{cases_lt, cases_eq}
 use Rattle.std.proofs.lemmas.List.{reverse-append, reverse-reverse, length-reverse, get_or_push}
@@ -44,13 +46,11 @@ stood_get [] i e h = absurd h
 stood_get (x ∷ past) i e (inl h) =
     ap (λ l. slice_get l i) (reverse-append (x ∷ []) past) ∙ get_last (reverse past) x i (length-reverse past ∙ h.0) ∙ ap Some h.1
 stood_get (x ∷ past) i e (inr h) =
-    ap (λ l. slice_get l i) (reverse-append (x ∷ []) past) ∙ get_front (reverse past) x i (let k = stood_lt past i e h in let l = length-reverse past in omega (arith, k, l)) ∙ stood_get past i e h
-
-none_some : (e : Event) → ◌≡◌ {A = Option Event} None (Some e) → ⊥
-none_some e h = cc
+    ap (λ l. slice_get l i) (reverse-append (x ∷ []) past) ∙ get_front (reverse past) x i
+    (let k = stood_lt past i e h in let l = length-reverse past in omega (arith, k, l)) ∙ stood_get past i e h
 
 pub get_stood : (past : List Event) (i : ℕ) (e : Event) → slice_get (reverse past) i ≡ Some e → Stood past i e
-get_stood [] i e h = none_some e (sym (slice_get_past (reverse []) i (omega arith)) ∙ h)
+get_stood [] i e h = none-some e (sym (slice_get_past (reverse []) i (omega arith)) ∙ h)
 get_stood (x ∷ past) i e h =
     let turned : slice_get (reverse past ++ x ∷ []) i ≡ Some e = ap (λ l. slice_get l i) (sym (reverse-append (x ∷ []) past)) ∙ h in
     let len = length-reverse past in
@@ -59,7 +59,7 @@ get_stood (x ∷ past) i e h =
       | inl lt ↦ inr (get_stood past i e (sym (get_front (reverse past) x i (omega (arith, lt, len))) ∙ turned))
       | inr ge ↦ elim (cases_eq (length past) i) [
         | inl is ↦ inl (is, some_same (sym (get_last (reverse past) x i (len ∙ is)) ∙ turned))
-        | inr ne ↦ absurd (none_some e (sym (slice_get_past (reverse past ++ x ∷ []) i (omega (arith, ge, ne, len, all))) ∙ turned))
+        | inr ne ↦ absurd (none-some e (sym (slice_get_past (reverse past ++ x ∷ []) i (omega (arith, ge, ne, len, all))) ∙ turned))
       ]
     ]
   where
@@ -71,10 +71,16 @@ touch_new : (c : ℕ) (past : List Event) (e : Event) (o : Option Kind) → kind
     → Among t (option_to_list (option_map (λ kind. touch (length past) e.strand kind) o) ++ touches_past c past)
     → ((t.place ≡ length past) × (e.strand ≡ t.strand) × (kind_of c e.action ≡ Some t.kind)) ⊎ Among t (touches_past c past)
 touch_new c past e None is t h = inr h
-touch_new c past e (Some k) is t (inl q) = inl (sym (ap (λ (z : Touch Kind). z.place) q), ap (λ (z : Touch Kind). z.strand) q, is ∙ ap (λ (z : Touch Kind). Some z.kind) q)
+touch_new c past e (Some k) is t (inl q) = inl (
+  sym (ap (λ (z : Touch Kind). z.place) q),
+  ap (λ (z : Touch Kind). z.strand) q,
+  is
+      ∙ ap (λ (z : Touch Kind). Some z.kind) q,
+)
 touch_new c past e (Some k) is t (inr h) = inr h
 
-pub touch_stood : (c : ℕ) (past : List Event) (t : Touch Kind) → Among t (touches_past c past) → (e : Event) × Stood past t.place e × (e.strand ≡ t.strand) × (kind_of c e.action ≡ Some t.kind)
+pub touch_stood : (c : ℕ) (past : List Event) (t : Touch Kind) → Among t (touches_past c past)
+    → (e : Event) × Stood past t.place e × (e.strand ≡ t.strand) × (kind_of c e.action ≡ Some t.kind)
 touch_stood c [] t h = absurd h
 touch_stood c (e ∷ past) t h = elim (touch_new c past e (kind_of c e.action) refl t h) [
   | inl n ↦ (e, inl (sym n.0, refl), n.1, n.2)
@@ -83,14 +89,16 @@ touch_stood c (e ∷ past) t h = elim (touch_new c past e (kind_of c e.action) r
 
 touch_here : (c : ℕ) (past : List Event) (e : Event) (o : Option Kind) (k : Kind) → o ≡ Some k
     → Among (touch (length past) e.strand k) (option_to_list (option_map (λ kind. touch (length past) e.strand kind) o) ++ touches_past c past)
-touch_here c past e o k is = subst (λ z. Among (touch (length past) e.strand k) (option_to_list (option_map (λ kind. touch (length past) e.strand kind) z) ++ touches_past c past)) (sym is) (inl refl)
+touch_here c past e o k is = subst (λ z. Among (touch (length past) e.strand k)
+    (option_to_list (option_map (λ kind. touch (length past) e.strand kind) z) ++ touches_past c past)) (sym is) (inl refl)
 
 touch_there : (c : ℕ) (past : List Event) (e : Event) (o : Option Kind) (t : Touch Kind) → Among t (touches_past c past)
     → Among t (option_to_list (option_map (λ kind. touch (length past) e.strand kind) o) ++ touches_past c past)
 touch_there c past e None t h = h
 touch_there c past e (Some k) t h = inr h
 
-pub stood_touch : (c : ℕ) (past : List Event) (i : ℕ) (e : Event) (k : Kind) → Stood past i e → kind_of c e.action ≡ Some k → Among (touch i e.strand k) (touches_past c past)
+pub stood_touch : (c : ℕ) (past : List Event) (i : ℕ) (e : Event) (k : Kind) → Stood past i e → kind_of c e.action ≡ Some k
+    → Among (touch i e.strand k) (touches_past c past)
 stood_touch c [] i e k h is = absurd h
 stood_touch c (x ∷ past) i e k (inl h) is =
     subst (λ n. Among (touch n e.strand k) (touches_past c (x ∷ past))) h.0
@@ -114,7 +122,8 @@ abbrev pub by_structure : Event → Bool
 by_structure e = structural e.action
 
 -- accesses change nothing of the current and last strands
-current_next : (past : List Event) → ((t : ℕ) → current (filter by_structure past) t ≡ current past t) → (task s : ℕ) (a : Action) (t : ℕ) → current (filter by_structure (ev task s a ∷ past)) t ≡ current (ev task s a ∷ past) t
+current_next : (past : List Event) → ((t : ℕ) → current (filter by_structure past) t ≡ current past t) → (task s : ℕ) (a : Action) (t : ℕ)
+    → current (filter by_structure (ev task s a ∷ past)) t ≡ current (ev task s a ∷ past) t
 current_next past ih task s (Reads c n) t = ih t
 current_next past ih task s (Writes c n) t = ih t
 current_next past ih task s (Spawns d c k y args) t = ap (λ o. current_by task (Spawns d c k y args) t o) (ih t)
@@ -131,7 +140,8 @@ if_none : (b : Bool) (o r : Option ℕ) → r ≡ (if b && false then o else r)
 if_none true o r = refl
 if_none false o r = refl
 
-last_next : (past : List Event) → ((t : ℕ) → last_of (filter by_structure past) t ≡ last_of past t) → (task s : ℕ) (a : Action) (t : ℕ) → last_of (filter by_structure (ev task s a ∷ past)) t ≡ last_of (ev task s a ∷ past) t
+last_next : (past : List Event) → ((t : ℕ) → last_of (filter by_structure past) t ≡ last_of past t) → (task s : ℕ) (a : Action) (t : ℕ)
+    → last_of (filter by_structure (ev task s a ∷ past)) t ≡ last_of (ev task s a ∷ past) t
 last_next past ih task s (Reads c n) t = ih t ∙ if_none (t == task) (Some s) (last_of past t)
 last_next past ih task s (Writes c n) t = ih t ∙ if_none (t == task) (Some s) (last_of past t)
 last_next past ih task s (Spawns d c k y args) t = ap (λ o. if (t == task) && false then Some s else o) (ih t)
@@ -154,7 +164,8 @@ sound_rest true e rest h = h.0
 sound_rest false e rest h = h
 
 -- the strand of an event is one of the structure
-strand_in : (past : List Event) → IsSoundPast (filter by_structure past) → AreStanding past → (i : ℕ) (e : Event) → Stood past i e → e.strand < next_strand (filter by_structure past)
+strand_in : (past : List Event) → IsSoundPast (filter by_structure past) → AreStanding past → (i : ℕ) (e : Event) → Stood past i e
+    → e.strand < next_strand (filter by_structure past)
 strand_in [] sound standing i e h = absurd h
 strand_in (x ∷ past) sound standing i e (inl h) =
     let rest = sound_rest (by_structure x) x (filter by_structure past) sound in
@@ -171,7 +182,8 @@ strand_in (x ∷ past) sound standing i e (inr h) =
     omega (arith, lt, le)
 
 -- the events before one, among which an earlier one stands
-split_at : (past : List Event) (i j : ℕ) (a b : Event) → Stood past i a → Stood past j b → i < j → (newer : List Event) × (older : List Event) × (past ≡ newer ++ b ∷ older) × Stood older i a
+split_at : (past : List Event) (i j : ℕ) (a b : Event) → Stood past i a → Stood past j b → i < j
+    → (newer : List Event) × (older : List Event) × (past ≡ newer ++ b ∷ older) × Stood older i a
 split_at [] i j a b ha hb lt = absurd ha
 split_at (x ∷ past) i j a b (inl ha) (inl hb) lt = absurd (omega (arith, ha.0, hb.0, lt))
 split_at (x ∷ past) i j a b (inl ha) (inr hb) lt = let k = stood_lt past j b hb in absurd (omega (arith, ha.0, k, lt))
@@ -187,7 +199,8 @@ sound_tail [] past sound = sound
 sound_tail (e ∷ later) past sound = sound_tail later past sound.0
 
 -- no path of the structure leads back, in lists with the newest event first
-no_path_back_past : (past : List Event) → IsSoundPast (filter by_structure past) → AreStanding past → (i j : ℕ) (a b : Event) → Stood past i a → Stood past j b → i < j → ReachesBy (edges_past (filter by_structure past)) b.strand a.strand → a.strand ≡ b.strand
+no_path_back_past : (past : List Event) → IsSoundPast (filter by_structure past) → AreStanding past → (i j : ℕ) (a b : Event) → Stood past i a → Stood past j b
+    → i < j → ReachesBy (edges_past (filter by_structure past)) b.strand a.strand → a.strand ≡ b.strand
 no_path_back_past past sound standing i j a b ha hb lt r =
     let k = split_at past i j a b ha hb lt in
     let newer = k.0 in
@@ -201,8 +214,10 @@ no_path_back_past past sound standing i j a b ha hb lt r =
     let rest = sound_tail later (filter by_structure older) whole in
     let at = standing_at newer b older (subst AreStanding k.2 standing) in
     let in_ : a.strand < next_strand (filter by_structure older) = strand_in older rest at.0 i a k.3 in
-    let path = (paths_are_kept later (filter by_structure older) whole b.strand a.strand in_).0 (subst (λ l. ReachesBy (edges_past l) b.strand a.strand) parts r) in
-    current_ends_paths (filter by_structure older) rest b.task b.strand a.strand (same_current older b.task ∙ at.1.stands) (same_last older b.task ∙ at.1.running) path
+    let path = (paths_are_kept later (filter by_structure older) whole b.strand a.strand
+    in_).0 (subst (λ l. ReachesBy (edges_past l) b.strand a.strand) parts r) in
+    current_ends_paths (filter by_structure older) rest b.task b.strand a.strand (same_current older b.task ∙ at.1.stands)
+    (same_last older b.task ∙ at.1.running) path
 
 module _ (h : List Event) (steps : IsInStep h) where
   abbrev turned : reverse (structure_of h) ≡ filter by_structure (reverse h)
@@ -234,6 +249,7 @@ accesses_are_late h c steps = (
   λ a b ha hb lt r. (
       let x = touch_stood c (reverse h) a ha in
       let y = touch_stood c (reverse h) b hb in
-      sym x.2 ∙ back h steps a.place b.place x.0 y.0 x.1 y.1 lt (subst (λ n. Reaches h n x.0.strand) (sym y.2) (subst (λ n. Reaches h b.strand n) (sym x.2) r)) ∙ y.2),
+      sym x.2 ∙ back h steps a.place b.place x.0 y.0 x.1 y.1 lt
+      (subst (λ n. Reaches h n x.0.strand) (sym y.2) (subst (λ n. Reaches h b.strand n) (sym x.2) r)) ∙ y.2),
   λ t ht. (let x = touch_stood c (reverse h) t ht in let lt = strand_there h steps t.place x.0 x.1 in omega (arith, lt, x.2)),
 )

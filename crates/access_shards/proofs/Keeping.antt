@@ -30,8 +30,14 @@ strong =
 -- a list in order, and one more at its end
 pub in_order_more : (xs : List Access) (y : Access) → IsInOrder xs → ((a : Access) → Among a xs → a.place < y.place) → IsInOrder (xs ++ y ∷ [])
 in_order_more [] y h above = ((λ b k. absurd k), tt)
-in_order_more (x ∷ xs) y h above =
-    ((λ b k. elim (among_or b xs (y ∷ []) k) [ inl l ↦ h.0 b l | inr (inl e) ↦ subst (λ (z : Access). x.place < z.place) e (above x (inl refl)) | inr (inr n) ↦ absurd n ]), in_order_more xs y h.1 (λ a k. above a (inr k)))
+in_order_more (x ∷ xs) y h above = (
+  (λ b k. elim (among_or b xs (y ∷ []) k) [
+    | inl l ↦ h.0 b l
+    | inr (inl e) ↦ subst (λ (z : Access). x.place < z.place) e (above x (inl refl))
+    | inr (inr n) ↦ absurd n
+  ]),
+  in_order_more xs y h.1 (λ a k. above a (inr k)),
+)
 
 pub in_order_last : (xs : List Access) (y : Access) → IsInOrder (xs ++ y ∷ []) → IsInOrder xs × ((a : Access) → Among a xs → a.place < y.place)
 in_order_last [] y h = (tt, λ a k. absurd k)
@@ -42,7 +48,9 @@ in_order_last (x ∷ xs) y h =
     )
 
 -- what comes after those of a cell that have no race, of which these are kept
-module _ (s : List Event) (past : List (Touch Kind)) (at : Strand) (place : ℕ) (kind : Kind) (may : MayCome s past at place kind) (calm : HasNoRace Kind kinds (edges_of s) past) (writer : Option Access) (readers : List Access) (wrote : IsWriter s past writer) (read : AreReaders s past readers) where
+module _ (s : List Event) (past : List (Touch Kind)) (at : Strand) (place : ℕ) (kind : Kind) (may : MayCome s past at place kind)
+    (calm : HasNoRace Kind kinds (edges_of s) past) (writer : Option Access) (readers : List Access) (wrote : IsWriter s past writer)
+    (read : AreReaders s past readers) where
   abbrev x : Touch Kind
   x = touch place at.number kind
 
@@ -72,7 +80,8 @@ module _ (s : List Event) (past : List (Touch Kind)) (at : Strand) (place : ℕ)
       (k.0, among_right k.0 (option_to_list writer) readers k.1, k.2)
 
   -- what is kept shows an access that must be
-  from_writer : (o : Option Access) → IsWriter s past o → (a : Access) → Among a (option_to_list o) → (c : Touch Kind) × IsLastWrite Kind kinds past c × Shows s a c
+  from_writer : (o : Option Access) → IsWriter s past o → (a : Access) → Among a (option_to_list o)
+      → (c : Touch Kind) × IsLastWrite Kind kinds past c × Shows s a c
   from_writer None w a h = absurd h
   from_writer (Some b) w a (inl e) = (w.0, w.1, subst (λ z. Shows s z w.0) e w.2)
   from_writer (Some b) w a (inr h) = absurd h
@@ -100,7 +109,11 @@ module _ (s : List Event) (past : List (Touch Kind)) (at : Strand) (place : ℕ)
     where
       go : (o : Option Access) → IsWriter s past o → IsInOrder (all_kept o readers)
       go None w = read.order
-      go (Some a) w = ((λ b h. (let k = read.each b h in let lt = k.1.after w.0 w.1.there w.1.write in omega (arith, lt, w.2.place_is, k.2.place_is))), read.order)
+      go (Some a) w = (
+        (λ b h. (let k = read.each b h in let lt = k.1.after w.0 w.1.there w.1.write in
+            omega (arith, lt, w.2.place_is, k.2.place_is))),
+        read.order,
+      )
 
   pub strands_of : (a : Access) → Among a (all_kept writer readers) → IsStrandOf s a.strand
   strands_of a h = (kept_one a h).2.strand_of
@@ -173,7 +186,8 @@ module _ (s : List Event) (past : List (Touch Kind)) (at : Strand) (place : ℕ)
       go (Some a) w = (w.0, write_stays Kind kinds es past x may.rising w.0 (ap is_write is) w.1, w.2)
 
   -- and the reads from which it is not reached, and it
-  pub kept_by_read : kind ≡ reading → (new : Access) → Shown new → (left : List Access) → AreThoseApart s at readers left → AreReaders s (x ∷ past) (left ++ new ∷ [])
+  pub kept_by_read : kind ≡ reading → (new : Access) → Shown new → (left : List Access) → AreThoseApart s at readers left
+      → AreReaders s (x ∷ past) (left ++ new ∷ [])
   kept_by_read is new sh left those =
       let free : is_write kind ≡ false = ap is_write is in
       record {
@@ -183,20 +197,30 @@ module _ (s : List Event) (past : List (Touch Kind)) (at : Strand) (place : ℕ)
               let r = read.each a k.0 in (
                 r.0,
                 latest_stays Kind kinds es past x may.rising reading r.0 free
-                    (λ j. k.1 (subst (λ n. ReachesBy es n at.number) (sym r.2.number_is) (reached Kind kinds es past x strong may.rising may.late r.0 x (inr r.1.there) (inl refl) (may.rising.0 r.0 r.1.there) j)))
+                    (λ j. k.1 (subst (λ n. ReachesBy es n at.number) (sym r.2.number_is)
+                    (reached Kind kinds es past x strong may.rising may.late r.0 x (inr r.1.there) (inl refl) (may.rising.0 r.0 r.1.there) j)))
                     r.1,
                 r.2,
               ))
-          | inr (inl e) ↦ (x, subst (λ z. IsLatest Kind kinds es (x ∷ past) z x) is (latest_new Kind kinds es past x may.rising free), subst (λ z. Shows s z x) e sh)
+          | inr (inl e) ↦ (
+            x,
+            subst (λ z. IsLatest Kind kinds es (x ∷ past) z x) is (latest_new Kind kinds es past x may.rising free),
+            subst (λ z. Shows s z x) e sh,
+          )
           | inr (inr n) ↦ absurd n
         ];
         whole = λ t l. elim l.there [
           | inl e ↦ (new, among_right new left (new ∷ []) (inl refl), subst (Shows s new) e sh)
           | inr h ↦ (
               let lt = may.rising.0 t h in
-              let b = latest_before Kind kinds es past x may.rising reading t free (λ e. (let p = ap (λ (i : Touch Kind). i.place) e in absurd (omega (arith, p, lt)))) l in
-              let k = read.whole t b in
-              (k.0, among_left k.0 left (new ∷ []) ((those.those k.0).1 (k.1, λ r. l.latest x (inl refl) is lt (inl (subst (λ n. ReachesBy es n at.number) k.2.number_is r)))), k.2))
+              let b = latest_before Kind kinds es past x may.rising reading t free (λ e.
+              (let p = ap (λ (i : Touch Kind). i.place) e in absurd (omega (arith, p, lt)))) l in
+              let k = read.whole t b in (
+                k.0,
+                among_left k.0 left (new ∷ []) ((those.those k.0).1
+                    (k.1, λ r. l.latest x (inl refl) is lt (inl (subst (λ n. ReachesBy es n at.number) k.2.number_is r)))),
+                k.2,
+              ))
         ];
         order = in_order_more left new those.order (λ a h. (
             let k = (those.those a).0 h in

@@ -16,24 +16,29 @@ use Rattle.access_shards.specs.Finding.{AreOf, FindsLast, AllOnKnown}
 use Rattle.access_shards.proofs.Next.{pair_stays}
 use Rattle.access_shards.proofs.Rising.{readers_apart, in_order_left}
 use Rattle.strand_laws.proofs.Places.{among_or, among_left, among_right}
-use Rattle.access_shards.proofs.Keeping.{kept_in_order, strands_of, found_by_read, found_by_write, none_by_read, none_by_write, kept_by_read, kept_by_write, writer_stays}
+use Rattle.access_shards.proofs.Keeping.{kept_in_order, strands_of, found_by_read, found_by_write, none_by_read, none_by_write, kept_by_read, kept_by_write}
+use Rattle.access_shards.proofs.Keeping.{writer_stays}
 
 order_right : (xs ys : List Access) → IsInOrder (xs ++ ys) → IsInOrder ys
 order_right [] ys h = h
 order_right (x ∷ xs) ys h = order_right xs ys h.1
 
 -- the judge knows the strands
-pub known_writer : (known : ℕ) (old : Kept) (writer : Option Access) (readers : Vec Access Global) → old ≡ Clean writer readers → AreKnown known old → AllOnKnown known (option_to_list writer)
+pub known_writer : (known : ℕ) (old : Kept) (writer : Option Access) (readers : Vec Access Global) → old ≡ Clean writer readers → AreKnown known old
+    → AllOnKnown known (option_to_list writer)
 known_writer known old writer readers is k = λ a h. (let K = subst (AreKnown known) is k in K a (among_left a (option_to_list writer) readers.items h))
 
-pub known_readers : (known : ℕ) (old : Kept) (writer : Option Access) (readers : Vec Access Global) → old ≡ Clean writer readers → AreKnown known old → AllOnKnown known readers.items
+pub known_readers : (known : ℕ) (old : Kept) (writer : Option Access) (readers : Vec Access Global) → old ≡ Clean writer readers → AreKnown known old
+    → AllOnKnown known readers.items
 known_readers known old writer readers is k = λ a h. (let K = subst (AreKnown known) is k in K a (among_right a (option_to_list writer) readers.items h))
 
-pub known_all : (known : ℕ) (old : Kept) (writer : Option Access) (readers : Vec Access Global) → old ≡ Clean writer readers → AreKnown known old → AllOnKnown known (all_kept writer readers.items)
+pub known_all : (known : ℕ) (old : Kept) (writer : Option Access) (readers : Vec Access Global) → old ≡ Clean writer readers → AreKnown known old
+    → AllOnKnown known (all_kept writer readers.items)
 known_all known old writer readers is k = subst (AreKnown known) is k
 
 module _ (table : List Strand) (at : Strand) (place : ℕ) (known : ℕ) (english hebrew : List ℕ) where
-  shows_new : (s : List Event) (kind : Kind) (new : Access) → IsViewOf s table at known english hebrew → new ≡ record { place = place; strand = at } → Shows s new (touch place at.number kind)
+  shows_new : (s : List Event) (kind : Kind) (new : Access) → IsViewOf s table at known english hebrew → new ≡ record { place = place; strand = at }
+      → Shows s new (touch place at.number kind)
   shows_new s kind new view is =
       record {
         place_is = ap (λ (a : Access). a.place) is;
@@ -42,7 +47,8 @@ module _ (table : List Strand) (at : Strand) (place : ℕ) (known : ℕ) (englis
       }
 
   -- once a race is found nothing changes
-  pub found_stays : (kind : Kind) (old : Logged) (first second : ℕ) → old.kept ≡ Found first second → KeepsOneMore table at place kind known english hebrew old old
+  pub found_stays : (kind : Kind) (old : Logged) (first second : ℕ) → old.kept ≡ Found first second
+      → KeepsOneMore table at place kind known english hebrew old old
   found_stays kind old first second is s past view may was =
       record {
         kept = subst (IsKept s (touch place at.number kind ∷ past)) (sym is)
@@ -51,7 +57,8 @@ module _ (table : List Strand) (at : Strand) (place : ℕ) (known : ℕ) (englis
       }
 
   module _ (old : Logged) (writer : Option Access) (readers : Vec Access Global) (is : old.kept ≡ Clean writer readers) (room : ℕ) where
-    pub read_finds : (first : ℕ) (rise : Bool) → FindsLast table at known english hebrew (option_to_list writer) (Some first) → KeepsOneMore table at place reading known english hebrew old (record { kept = Found first place; room = room; rise = rise })
+    pub read_finds : (first : ℕ) (rise : Bool) → FindsLast table at known english hebrew (option_to_list writer) (Some first)
+        → KeepsOneMore table at place reading known english hebrew old (record { kept = Found first place; room = room; rise = rise })
     read_finds first rise finds s past view may was =
         let k = subst (IsKept s past) is was.kept in
         let of : AreOf s (option_to_list writer) = record {
@@ -60,7 +67,8 @@ module _ (table : List Strand) (at : Strand) (place : ℕ) (known : ℕ) (englis
         } in
         record { kept = found_by_read s past at place reading may k.0 writer readers.items k.1 k.2 refl first (finds s view of); rising = λ _ a b h. absurd h }
 
-    pub write_finds : (first : ℕ) (rise : Bool) → FindsLast table at known english hebrew (all_kept writer readers.items) (Some first) → KeepsOneMore table at place writing known english hebrew old (record { kept = Found first place; room = room; rise = rise })
+    pub write_finds : (first : ℕ) (rise : Bool) → FindsLast table at known english hebrew (all_kept writer readers.items) (Some first)
+        → KeepsOneMore table at place writing known english hebrew old (record { kept = Found first place; room = room; rise = rise })
     write_finds first rise finds s past view may was =
         let k = subst (IsKept s past) is was.kept in
         let of : AreOf s (all_kept writer readers.items) = record {
@@ -69,8 +77,13 @@ module _ (table : List Strand) (at : Strand) (place : ℕ) (known : ℕ) (englis
         } in
         record { kept = found_by_write s past at place writing may k.0 writer readers.items k.1 k.2 refl first (finds s view of); rising = λ _ a b h. absurd h }
 
-    pub write_keeps : FindsLast table at known english hebrew (all_kept writer readers.items) None → (none : Vec Access Global) → none.items ≡ [] → (rise : Bool)
-        → KeepsOneMore table at place writing known english hebrew old (record { kept = Clean (Some (record { place = place; strand = at })) none; room = room; rise = rise })
+    pub write_keeps : FindsLast table at known english hebrew (all_kept writer readers.items) None → (none : Vec Access Global) → none.items ≡ []
+        → (rise : Bool)
+        → KeepsOneMore table at place writing known english hebrew old (record {
+          kept = Clean (Some (record { place = place; strand = at })) none;
+          room = room;
+          rise = rise;
+        })
     write_keeps finds none empty rise s past view may was =
         let k = subst (IsKept s past) is was.kept in
         let of : AreOf s (all_kept writer readers.items) = record {
@@ -87,7 +100,8 @@ module _ (table : List Strand) (at : Strand) (place : ℕ) (known : ℕ) (englis
           rising = λ _ a b h. absurd (subst (Among a) empty h);
         }
 
-    pub read_keeps : FindsLast table at known english hebrew (option_to_list writer) None → (new : Vec Access Global) (rise : Bool) → KeepsRead table (record { place = place; strand = at }) known english hebrew old.rise readers.items rise new.items
+    pub read_keeps : FindsLast table at known english hebrew (option_to_list writer) None → (new : Vec Access Global) (rise : Bool)
+        → KeepsRead table (record { place = place; strand = at }) known english hebrew old.rise readers.items rise new.items
         → KeepsOneMore table at place reading known english hebrew old (record { kept = Clean writer new; room = room; rise = rise })
     read_keeps finds new rise keeps s past view may was =
         let k = subst (IsKept s past) is was.kept in
@@ -117,12 +131,16 @@ module _ (table : List Strand) (at : Strand) (place : ℕ) (known : ℕ) (englis
         }
 
 -- whoever knows the strands of what was kept, and the new one, knows those that are kept after a read
-pub strands_stay : (at : Strand) (place : ℕ) (old : Kept) (writer : Option Access) (readers new : Vec Access Global) → old ≡ Clean writer readers → ((a : Access) → Among a new.items → Among a readers.items ⊎ (record { place = place; strand = at } ≡ a)) → StrandsStay at old (Clean writer new)
+pub strands_stay : (at : Strand) (place : ℕ) (old : Kept) (writer : Option Access) (readers new : Vec Access Global) → old ≡ Clean writer readers
+    → ((a : Access) → Among a new.items → Among a readers.items ⊎ (record { place = place; strand = at } ≡ a)) → StrandsStay at old (Clean writer new)
 strands_stay at place old writer readers new is those known lt was a h =
     let k = subst (AreKnown known) is was in
     elim (among_or a (option_to_list writer) new.items h) [
       | inl l ↦ k a (among_left a (option_to_list writer) readers.items l)
-      | inr r ↦ elim (those a r) [ inl l ↦ k a (among_right a (option_to_list writer) readers.items l) | inr e ↦ subst (λ (z : Access). z.strand.number < known) e lt ]
+      | inr r ↦ elim (those a r) [
+        | inl l ↦ k a (among_right a (option_to_list writer) readers.items l)
+        | inr e ↦ subst (λ (z : Access). z.strand.number < known) e lt
+      ]
     ]
 
 -- of no accesses nothing is kept
@@ -133,11 +151,13 @@ new_kept s readers empty = (
   subst (AreReaders s []) (sym empty) (record { each = λ a h. absurd h; whole = λ t l. absurd l.there; order = tt }),
 )
 
-pub new_log : (s : List Event) (readers : Vec Access Global) (room : ℕ) (rise : Bool) → readers.items ≡ [] → IsLogOf s [] (record { kept = Clean None readers; room = room; rise = rise })
+pub new_log : (s : List Event) (readers : Vec Access Global) (room : ℕ) (rise : Bool) → readers.items ≡ []
+    → IsLogOf s [] (record { kept = Clean None readers; room = room; rise = rise })
 new_log s readers room rise empty = record { kept = new_kept s readers empty; rising = λ _ a b h. absurd (subst (Among a) empty h) }
 
 -- a log whose room alone is another
-pub log_same : (s : List Event) (past : List (Touch Kind)) (old new : Logged) → new.kept ≡ old.kept → new.rise ≡ old.rise → IsLogOf s past old → IsLogOf s past new
+pub log_same : (s : List Event) (past : List (Touch Kind)) (old new : Logged) → new.kept ≡ old.kept → new.rise ≡ old.rise → IsLogOf s past old
+    → IsLogOf s past new
 log_same s past old new kept rise k =
     record {
       kept = subst (IsKept s past) (sym kept) k.kept;

@@ -19,7 +19,8 @@ module _ (table : List Strand) (at : Strand) (known : ℕ) (english hebrew : Lis
   shorter s xs a of = record { order = (in_order_last xs a of.order).0; strands = λ b h. of.strands b (among_left b xs (a ∷ []) h) }
 
   -- the last one of a list and one more
-  pub look_step : (xs : List Access) (a : Access) (found next : Option ℕ) → FindsLast table at known english hebrew xs found → LooksOn table at known english hebrew a found next → FindsLast table at known english hebrew (xs ++ a ∷ []) next
+  pub look_step : (xs : List Access) (a : Access) (found next : Option ℕ) → FindsLast table at known english hebrew xs found
+      → LooksOn table at known english hebrew a found next → FindsLast table at known english hebrew (xs ++ a ∷ []) next
   look_step xs a found next finds looks s view of =
       let strand = of.strands a (among_right a xs (a ∷ []) (inl refl)) in
       let before = finds s view (shorter s xs a of) in
@@ -58,7 +59,8 @@ module _ (table : List Strand) (at : Strand) (known : ℕ) (english hebrew : Lis
       )
 
   -- those of a list and one more from which the strand is not reached
-  pub keep_step : (xs : List Access) (a : Access) (old new : List Access) → FindsApart table at known english hebrew xs old → KeepsApart table at known english hebrew a old new → FindsApart table at known english hebrew (xs ++ a ∷ []) new
+  pub keep_step : (xs : List Access) (a : Access) (old new : List Access) → FindsApart table at known english hebrew xs old
+      → KeepsApart table at known english hebrew a old new → FindsApart table at known english hebrew (xs ++ a ∷ []) new
   keep_step xs a old new finds keeps s view of =
       let strand = of.strands a (among_right a xs (a ∷ []) (inl refl)) in
       let before = finds s view (shorter s xs a of) in
@@ -93,13 +95,15 @@ module _ (table : List Strand) (at : Strand) (known : ℕ) (english hebrew : Lis
             })
       ]
 
-  pub looks_at : (known' : ℕ) (english' hebrew' : List ℕ) (a : Access) (found next : Option ℕ) → known' ≡ known → english' ≡ english → hebrew' ≡ hebrew → LooksOn table at known' english' hebrew' a found next → LooksOn table at known english hebrew a found next
+  pub looks_at : (known' : ℕ) (english' hebrew' : List ℕ) (a : Access) (found next : Option ℕ) → known' ≡ known → english' ≡ english → hebrew' ≡ hebrew
+      → LooksOn table at known' english' hebrew' a found next → LooksOn table at known english hebrew a found next
   looks_at known' english' hebrew' a found next k e h l =
       subst (λ n. LooksOn table at n english hebrew a found next) k
       (subst (λ n. LooksOn table at known' n hebrew a found next) e
       (subst (λ n. LooksOn table at known' english' n a found next) h l))
 
-  pub keeps_at : (known' : ℕ) (english' hebrew' : List ℕ) (a : Access) (old new : List Access) → known' ≡ known → english' ≡ english → hebrew' ≡ hebrew → KeepsApart table at known' english' hebrew' a old new → KeepsApart table at known english hebrew a old new
+  pub keeps_at : (known' : ℕ) (english' hebrew' : List ℕ) (a : Access) (old new : List Access) → known' ≡ known → english' ≡ english → hebrew' ≡ hebrew
+      → KeepsApart table at known' english' hebrew' a old new → KeepsApart table at known english hebrew a old new
   keeps_at known' english' hebrew' a old new k e h l =
       subst (λ n. KeepsApart table at n english hebrew a old new) k
       (subst (λ n. KeepsApart table at known' n hebrew a old new) e
@@ -127,7 +131,3 @@ moved_on g {r = r} moved before m =
 -- stands where a list has no access
 abbrev pub no_access : Access
 no_access = record { place = 0; strand = record { number = 0; future = 0 } }
-
--- an access at a place of a list is one of the list
-pub at_place : {X : Type 0} → (xs : List X) (i : ℕ) (d : X) → i < length xs → Among (get_or xs i d) xs
-at_place xs i d lt = subst (λ l. Among (get_or xs i d) l) (take-append-drop (i + 1) xs) (among_left (get_or xs i d) (take (i + 1) xs) (drop (i + 1) xs) (subst (λ l. Among (get_or xs i d) l) (sym (take_more xs i d lt)) (among_right (get_or xs i d) (take i xs) (get_or xs i d ∷ []) (inl refl))))

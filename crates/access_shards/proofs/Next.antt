@@ -2,7 +2,8 @@
 use Rattle.std.proofs.Common.{◌≡◌, ◌≢◌, ℕ, ◌<◌, ◌≤◌, true, false, List, ◌∷◌, ◌⊎◌, inl, inr, subst, ap, sym, refl, ◌∙◌, true≢false, arith}
 use Rattle.std.proofs.lemmas.Bool.{cases_lt}
 use Rattle.fut_base.specs.Dag.{Among, ReachesBy, AreJoinedBy}
-use Rattle.access_shards.specs.Touches.{Touch, Kinds, WritesConflict, IsRising, IsLate, AreRacing, HasNoRace, IsFirstPair, HasNoWrite, IsLastWrite, IsLatest, MustBeKept}
+use Rattle.access_shards.specs.Touches.{Touch, Kinds, WritesConflict, IsRising, IsLate, AreRacing, HasNoRace, IsFirstPair, HasNoWrite, IsLastWrite, IsLatest}
+use Rattle.access_shards.specs.Touches.{MustBeKept}
 use Rattle.access_shards.proofs.Enough.{Meets, reached, enough}
 
 module _ (K : Type 0) (kinds : Kinds K) (es : List (ℕ × ℕ)) (past : List (Touch K)) (x : Touch K) (rising : IsRising (x ∷ past)) where
@@ -25,8 +26,11 @@ module _ (K : Type 0) (kinds : Kinds K) (es : List (ℕ × ℕ)) (past : List (T
 
   -- a race of x is that of an access which meets it
   meets : (a b : Touch K) → x ≡ b → AreRacing K kinds es (x ∷ past) a b → Meets K kinds es past x a
-  meets a b e r =
-      (subst (λ (t : Touch K). kinds.conflict a.kind t.kind ≡ true) (sym e) r.conflict, λ q. r.apart (inl (subst (λ (t : Touch K). ReachesBy es a.strand t.strand) e q)))
+  meets a b e r = (
+    subst (λ (t : Touch K). kinds.conflict a.kind t.kind ≡ true) (sym e) r.conflict,
+    λ q. r.apart
+        (inl (subst (λ (t : Touch K). ReachesBy es a.strand t.strand) e q)),
+  )
 
   -- the first pair stays
   pub pair_stays : (i j : ℕ) → IsFirstPair K kinds es past i j → IsFirstPair K kinds es (x ∷ past) i j
@@ -39,7 +43,10 @@ module _ (K : Type 0) (kinds : Kinds K) (es : List (ℕ × ℕ)) (past : List (T
       record {
         race = (a, b, record { one = inr r.one; other = inr r.other; order = r.order; conflict = r.conflict; apart = r.apart }, p.race.3, jb);
         least = λ c d q. elim (old_race c d q) [ inl e ↦ (let k = ap (λ (t : Touch K). t.place) e in omega (arith, k, lt)) | inr o ↦ p.least c d o ];
-        greatest = λ c d q same. elim (old_race c d q) [ inl e ↦ (let k = ap (λ (t : Touch K). t.place) e in absurd (omega (arith, k, lt, same))) | inr o ↦ p.greatest c d o same ];
+        greatest = λ c d q same. elim (old_race c d q) [
+          | inl e ↦ (let k = ap (λ (t : Touch K). t.place) e in absurd (omega (arith, k, lt, same)))
+          | inr o ↦ p.greatest c d o same
+        ];
       }
 
   -- an access after all writes that no later one of its kind is joined with, of those before
@@ -58,17 +65,24 @@ module _ (K : Type 0) (kinds : Kinds K) (es : List (ℕ × ℕ)) (past : List (T
       record {
         there = inr l.there;
         kind_is = l.kind_is;
-        after = λ w h write. elim h [ inl e ↦ absurd (true≢false (sym write ∙ ap (λ (i : Touch K). kinds.writes i.kind) (sym e) ∙ is)) | inr p ↦ l.after w p write ];
+        after = λ w h write. elim h [
+          | inl e ↦ absurd (true≢false (sym write ∙ ap (λ (i : Touch K). kinds.writes i.kind) (sym e) ∙ is))
+          | inr p ↦ l.after w p write
+        ];
         latest = λ u h ku lt j. elim h [ inl e ↦ ne (ap (λ (i : Touch K). i.kind) e ∙ ku) | inr p ↦ l.latest u p ku lt j ];
       }
 
   -- of the kind of x those are kept that x is not joined with, unless x writes
-  pub latest_stays : (k : K) (t : Touch K) → kinds.writes x.kind ≡ false → (AreJoinedBy es t.strand x.strand → ⊥) → IsLatest K kinds es past k t → IsLatest K kinds es (x ∷ past) k t
+  pub latest_stays : (k : K) (t : Touch K) → kinds.writes x.kind ≡ false → (AreJoinedBy es t.strand x.strand → ⊥) → IsLatest K kinds es past k t
+      → IsLatest K kinds es (x ∷ past) k t
   latest_stays k t is apart l =
       record {
         there = inr l.there;
         kind_is = l.kind_is;
-        after = λ w h write. elim h [ inl e ↦ absurd (true≢false (sym write ∙ ap (λ (i : Touch K). kinds.writes i.kind) (sym e) ∙ is)) | inr p ↦ l.after w p write ];
+        after = λ w h write. elim h [
+          | inl e ↦ absurd (true≢false (sym write ∙ ap (λ (i : Touch K). kinds.writes i.kind) (sym e) ∙ is))
+          | inr p ↦ l.after w p write
+        ];
         latest = λ u h ku lt j. elim h [ inl e ↦ apart (subst (λ (i : Touch K). AreJoinedBy es t.strand i.strand) (sym e) j) | inr p ↦ l.latest u p ku lt j ];
       }
 
@@ -95,7 +109,10 @@ module _ (K : Type 0) (kinds : Kinds K) (es : List (ℕ × ℕ)) (past : List (T
       record {
         there = inr l.there;
         write = l.write;
-        last = λ t h write. elim h [ inl e ↦ absurd (true≢false (sym write ∙ ap (λ (i : Touch K). kinds.writes i.kind) (sym e) ∙ is)) | inr p ↦ l.last t p write ];
+        last = λ t h write. elim h [
+          | inl e ↦ absurd (true≢false (sym write ∙ ap (λ (i : Touch K). kinds.writes i.kind) (sym e) ∙ is))
+          | inr p ↦ l.last t p write
+        ];
       }
 
   pub no_write : kinds.writes x.kind ≡ false → HasNoWrite K kinds past → HasNoWrite K kinds (x ∷ past)
@@ -110,7 +127,8 @@ module _ (K : Type 0) (kinds : Kinds K) (es : List (ℕ × ℕ)) (past : List (T
     ]
 
     -- the greatest kept access that meets x makes the first pair with it
-    pub pair_found : (c : Touch K) → Among c past → Meets K kinds es past x c → ((d : Touch K) → MustBeKept K kinds es past d → Meets K kinds es past x d → d.place ≤ c.place) → IsFirstPair K kinds es (x ∷ past) c.place x.place
+    pub pair_found : (c : Touch K) → Among c past → Meets K kinds es past x c
+        → ((d : Touch K) → MustBeKept K kinds es past d → Meets K kinds es past x d → d.place ≤ c.place) → IsFirstPair K kinds es (x ∷ past) c.place x.place
     pair_found c there m most =
         let lt : c.place < x.place = rising.0 c there in
         record {

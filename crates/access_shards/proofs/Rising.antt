@@ -1,5 +1,6 @@
 -- Which reads are kept where they rise in the English order of one future.
-use Rattle.std.proofs.Common.{◌≡◌, ◌≢◌, ℕ, ◌<◌, Bool, true, false, ◌&&◌, List, [], ◌∷◌, ◌++◌, ◌⊎◌, inl, inr, subst, ap, sym, refl, ◌∙◌, reverse, length, length-append, get_or, take, drop, ◌-◌, arith, suc, true≢false}
+use Rattle.std.proofs.Common.{◌≡◌, ◌≢◌, ℕ, ◌<◌, Bool, true, false, ◌&&◌, List, [], ◌∷◌, ◌++◌, ◌⊎◌, inl, inr, subst, ap, sym, refl, ◌∙◌, reverse, length}
+use Rattle.std.proofs.Common.{length-append, get_or, take, drop, ◌-◌, arith, suc, true≢false}
 use Rattle.std.proofs.lemmas.Bool.{cases_lt}
 use Rattle.std.proofs.lemmas.List.{take-append-drop, length-take-le, get_or-take}
 use Rattle.std.specs.Prelude.{◌↔◌, ◌≤◌}
@@ -21,19 +22,17 @@ use Rattle.access_shards.specs.Finding.{IsApart, AreOf, AreThoseApart, AllOnKnow
 use Rattle.access_shards.specs.Logged.{StandsFirst, RiseInEnglish}
 use Rattle.reach_table.specs.Telling.{TellsReach}
 use Rattle.access_shards.specs.Reading.{IsNotAfter, EndsBefore, IsDropped, DropsEnd, AreApart, AreReads, KeepsAll, KeepsRead}
-use Rattle.access_shards.proofs.Looking.{at_place}
+use Rattle.std.proofs.lemmas.Bool.{and_from}
+use Rattle.fut_base.proofs.Members.{at_place}
 use Rattle.access_shards.proofs.Keeping.{in_order_last}
-
-both_true : (a b : Bool) → a ≡ true → b ≡ true → (a && b) ≡ true
-both_true true b h k = k
-both_true false b h k = h
 
 module _ (s : List Event) (sound : IsSound s) where
   -- a strand after one that stands before another
   first_then : (u v w : Strand) → IsStrandOf s w → StandsFirst s u v → IsNotAfter (english_of s) v w → IsNotAfter (english_of s) u w
   first_then u v w ow h k = record { future_is = h.future_is ∙ k.future_is; first = go k.first }
     where
-      go : (v.number ≡ w.number) ⊎ (stands_before v.number w.number (english_of s) ≡ true) → (u.number ≡ w.number) ⊎ (stands_before u.number w.number (english_of s) ≡ true)
+      go : (v.number ≡ w.number) ⊎ (stands_before v.number w.number (english_of s) ≡ true)
+          → (u.number ≡ w.number) ⊎ (stands_before u.number w.number (english_of s) ≡ true)
       go (inl e) = inr (subst (λ n. stands_before u.number n (english_of s) ≡ true) e h.first)
       go (inr f) = elim (same_or_not u.number v.number) [
         | inl e ↦ inr (subst (λ n. stands_before n w.number (english_of s) ≡ true) (sym e) f)
@@ -74,7 +73,8 @@ module _ (s : List Event) (sound : IsSound s) where
       behind : place u.number H < place v.number H → ⊥
       behind lt =
           let before = place_before u.number v.number H ((whole_he (reverse s) sound).all v.number ov.there) lt in
-          apart ((try_means_path (reverse s) sound u.number v.number (record { one = ou.there; other = ov.there })).1 (inl (home_uv, inr (both_true _ _ h.first before))))
+          apart ((try_means_path (reverse s) sound u.number v.number (record { one = ou.there; other = ov.there })).1
+          (inl (home_uv, inr (and_from _ _ h.first before))))
 
       go : v.number ≢ w.number → stands_before v.number w.number E ≡ true → ReachesBy (edges_of s) v.number w.number
       go n f =
@@ -92,7 +92,8 @@ module _ (s : List Event) (sound : IsSound s) where
                     | inl lt ↦ absurd (behind lt)
                     | inr le ↦ (
                         let before = place_before v.number w.number H ((whole_he (reverse s) sound).all w.number ow.there) (omega (arith, z, le)) in
-                        (try_means_path (reverse s) sound v.number w.number (record { one = ov.there; other = ow.there })).1 (inl (home_vw, inr (both_true _ _ f before))))
+                        (try_means_path (reverse s) sound v.number w.number (record { one = ov.there; other = ow.there })).1
+                        (inl (home_vw, inr (and_from _ _ f before))))
                   ])
             ]
           ]
@@ -106,7 +107,8 @@ split_last {X} (a ∷ rest) = elim (split_last rest) [
 ]
 
 -- of accesses in order, each is the last or before it
-is_last : (all before : List Access) (last : Access) → all ≡ before ++ last ∷ [] → IsInOrder all → (a : Access) → Among a all → (last ≡ a) ⊎ (a.place < last.place)
+is_last : (all before : List Access) (last : Access) → all ≡ before ++ last ∷ [] → IsInOrder all → (a : Access) → Among a all
+    → (last ≡ a) ⊎ (a.place < last.place)
 is_last all before last is order a h =
     let o = in_order_last before last (subst IsInOrder is order) in
     elim (among_or a before (last ∷ []) (subst (Among a) is h)) [ inl l ↦ inr (o.1 a l) | inr (inl e) ↦ inl e | inr (inr n) ↦ absurd n ]
@@ -127,22 +129,27 @@ in_order_left [] ys h = tt
 in_order_left (x ∷ xs) ys h = ((λ b k. h.0 b (among_left b xs ys k)), in_order_left xs ys h.1)
 
 -- what the English side of the last access tells
-pub ends_of : (english : List ℕ) (at : Strand) (xs : List Access) (d : Access) (a b : ℕ) (side : Bool) → a ≡ (get_or xs (length xs - 1) d).strand.number → b ≡ at.number → side ≡ stands_before a b english → side ≡ true
+pub ends_of : (english : List ℕ) (at : Strand) (xs : List Access) (d : Access) (a b : ℕ) (side : Bool) → a ≡ (get_or xs (length xs - 1) d).strand.number
+    → b ≡ at.number → side ≡ stands_before a b english → side ≡ true
     → (get_or xs (length xs - 1) d).strand.future ≡ at.future → EndsBefore english at xs
-ends_of english at xs d a b side ea eb side_is on future_is before last is = subst (λ (x : Access). IsNotAfter english x.strand at) (last_at xs before last d is) (record {
-  future_is = future_is;
-  first = inr (subst (λ n. stands_before (get_or xs (length xs - 1) d).strand.number n english ≡ true) eb (subst (λ n. stands_before n b english ≡ true) ea (sym side_is ∙ on)));
-})
+ends_of english at xs d a b side ea eb side_is on future_is before last is = subst (λ (x : Access). IsNotAfter english x.strand at)
+    (last_at xs before last d is) (record {
+      future_is = future_is;
+      first = inr (subst (λ n. stands_before (get_or xs (length xs - 1) d).strand.number n english ≡ true) eb
+          (subst (λ n. stands_before n b english ≡ true) ea (sym side_is ∙ on)));
+    })
 
 -- what is said of the last of some accesses is said of the one at the last place
-pub ends_at : (english : List ℕ) (at : Strand) (xs : List Access) (d : Access) → 0 < length xs → EndsBefore english at xs → IsNotAfter english (get_or xs (length xs - 1) d).strand at
+pub ends_at : (english : List ℕ) (at : Strand) (xs : List Access) (d : Access) → 0 < length xs → EndsBefore english at xs
+    → IsNotAfter english (get_or xs (length xs - 1) d).strand at
 ends_at english at xs d some ends = elim (split_last xs) [
   | inl e ↦ absurd (let k = ap (length {A = Access}) e in omega (arith, some, k))
   | inr k ↦ subst (λ (x : Access). IsNotAfter english x.strand at) (sym (last_at xs k.0 k.1 d k.2)) (ends k.0 k.1 k.2)
 ]
 
 -- and the English side tells it
-pub side_at : (english : List ℕ) (u at : Strand) (a b : ℕ) (side : Bool) → a ≡ u.number → b ≡ at.number → side ≡ stands_before a b english → u.number ≢ at.number → IsNotAfter english u at → side ≡ true
+pub side_at : (english : List ℕ) (u at : Strand) (a b : ℕ) (side : Bool) → a ≡ u.number → b ≡ at.number → side ≡ stands_before a b english
+    → u.number ≢ at.number → IsNotAfter english u at → side ≡ true
 side_at english u at a b side ea eb side_is ne k = elim k.first [
   | inl e ↦ absurd (ne e)
   | inr on ↦ side_is ∙ subst (λ n. stands_before a n english ≡ true) (sym eb) (subst (λ n. stands_before n at.number english ≡ true) (sym ea) on)
@@ -151,24 +158,30 @@ side_at english u at a b side ea eb side_is ne k = elim k.first [
 module _ (table : List Strand) (at : Strand) (known : ℕ) (english hebrew : List ℕ) where
   -- a strand is reached from each access but the first n
   abbrev pub DropsFrom : List Access → ℕ → Type 0
-  DropsFrom all n = (s : List Event) → IsViewOf s table at known english hebrew → AreOf s all → (a : Access) → Among a (drop n all) → ReachesBy (edges_of s) a.strand.number at.number
+  DropsFrom all n = (s : List Event) → IsViewOf s table at known english hebrew → AreOf s all → (a : Access) → Among a (drop n all) → ReachesBy
+      (edges_of s) a.strand.number at.number
 
   -- what an answer tells of the access before
   abbrev pub TellsOf : Access → ℕ → List ℕ → List ℕ → Bool → Type 0
   TellsOf a k en he answer = TellsReach table a.strand at k en he answer
 
-  told : (all : List Access) (i : ℕ) (d : Access) (k : ℕ) (en he : List ℕ) (answer : Bool) → k ≡ known → en ≡ english → he ≡ hebrew → i < length all → TellsOf (get_or all i d) k en he answer
-      → (s : List Event) → IsViewOf s table at known english hebrew → AreOf s all → (answer ≡ true) ↔ ReachesBy (edges_of s) (get_or all i d).strand.number at.number
+  told : (all : List Access) (i : ℕ) (d : Access) (k : ℕ) (en he : List ℕ) (answer : Bool) → k ≡ known → en ≡ english → he ≡ hebrew → i < length all
+      → TellsOf (get_or all i d) k en he answer
+      → (s : List Event) → IsViewOf s table at known english hebrew → AreOf s all
+      → (answer ≡ true) ↔ ReachesBy (edges_of s) (get_or all i d).strand.number at.number
   told all i d k en he answer ek ee eh lt tells s view of =
-      let t = subst (λ n. TellsOf (get_or all i d) n english hebrew answer) ek (subst (λ l. TellsOf (get_or all i d) k l hebrew answer) ee (subst (λ l. TellsOf (get_or all i d) k en l answer) eh tells)) in
+      let t = subst (λ n. TellsOf (get_or all i d) n english hebrew answer) ek (subst (λ l. TellsOf (get_or all i d) k l hebrew answer) ee
+      (subst (λ l. TellsOf (get_or all i d) k en l answer) eh tells)) in
       t s view.sound (of.strands (get_or all i d) (at_place all i d lt)) view.here view.table_is view.orders
 
   -- one more access is dropped
-  pub drops_more : (all : List Access) (n : ℕ) (d : Access) (k : ℕ) (en he : List ℕ) (answer : Bool) → k ≡ known → en ≡ english → he ≡ hebrew → 0 < n → n ≤ length all
+  pub drops_more : (all : List Access) (n : ℕ) (d : Access) (k : ℕ) (en he : List ℕ) (answer : Bool) → k ≡ known → en ≡ english → he ≡ hebrew → 0 < n
+      → n ≤ length all
       → TellsOf (get_or all (n - 1) d) k en he answer → answer ≡ true → DropsFrom all n → DropsFrom all (n - 1)
   drops_more all n d k en he answer ek ee eh some le tells is drops s view of a h =
       elim (subst (Among a) (drop-cons all (n - 1) d (omega (arith, some, le))) h) [
-        | inl e ↦ subst (λ (z : Access). ReachesBy (edges_of s) z.strand.number at.number) e ((told all (n - 1) d k en he answer ek ee eh (omega (arith, some, le)) tells s view of).0 is)
+        | inl e ↦ subst (λ (z : Access). ReachesBy (edges_of s) z.strand.number at.number) e
+            ((told all (n - 1) d k en he answer ek ee eh (omega (arith, some, le)) tells s view of).0 is)
         | inr m ↦ drops s view of a (subst (λ j. Among a (drop j all)) (up n some) m)
       ]
     where
@@ -176,7 +189,8 @@ module _ (table : List Strand) (at : Strand) (known : ℕ) (english hebrew : Lis
       up n lt = omega (arith, lt)
 
   -- the last one that is left is not dropped
-  pub drops_end : (all : List Access) (n : ℕ) (d : Access) (k : ℕ) (en he : List ℕ) (answer : Bool) → k ≡ known → en ≡ english → he ≡ hebrew → 0 < n → n ≤ length all
+  pub drops_end : (all : List Access) (n : ℕ) (d : Access) (k : ℕ) (en he : List ℕ) (answer : Bool) → k ≡ known → en ≡ english → he ≡ hebrew → 0 < n
+      → n ≤ length all
       → TellsOf (get_or all (n - 1) d) k en he answer → answer ≡ false → DropsFrom all n → DropsEnd table at known english hebrew all n
   drops_end all n d k en he answer ek ee eh some le tells is drops s view of =
       record {
@@ -185,7 +199,8 @@ module _ (table : List Strand) (at : Strand) (known : ℕ) (english hebrew : Lis
             let t = told all (n - 1) d k en he answer ek ee eh (omega (arith, some, le)) tells s view of in
             let len = length-take-le n all le in
             let here : get_or all (n - 1) d ≡ a =
-            sym (get_or-take n all (n - 1) d (omega (arith, some))) ∙ ap (λ j. get_or (take n all) j d) (minus n (length (take n all)) len) ∙ last_at (take n all) before a d e in
+            sym (get_or-take n all (n - 1) d (omega (arith, some))) ∙ ap (λ j. get_or (take n all) j d) (minus n (length (take n all)) len)
+            ∙ last_at (take n all) before a d e in
             true≢false (sym (t.1 (subst (λ (z : Access). ReachesBy (edges_of s) z.strand.number at.number) (sym here) r)) ∙ is));
       }
     where
@@ -193,7 +208,8 @@ module _ (table : List Strand) (at : Strand) (known : ℕ) (english hebrew : Lis
       minus a b e = omega (arith, e)
 
 module _ (s : List Event) (table : List Strand) (new : Access) (known : ℕ) (english hebrew : List ℕ) (view : IsViewOf s table new.strand known english hebrew)
-    (old : List Access) (reads : AreReads s old true) (ends : EndsBefore english new.strand old) (at_known : new.strand.number < known) (all_known : AllOnKnown known old) where
+    (old : List Access) (reads : AreReads s old true) (ends : EndsBefore english new.strand old) (at_known : new.strand.number < known)
+    (all_known : AllOnKnown known old) where
   abbrev Not : Access → Type 0
   Not a = IsNotAfter (english_of s) a.strand new.strand
 
@@ -206,7 +222,10 @@ module _ (s : List Event) (table : List Strand) (new : Access) (known : ℕ) (en
           | inl e ↦ inl e
           | inr ne ↦ elim k.first [
             | inl e ↦ inl e
-            | inr f ↦ inr (sym (view.orders.first a.strand.number new.strand.number (record { less = all_known a h; there = (reads.of.strands a h).there }) (record { less = at_known; there = view.here.there }) ne) ∙ f)
+            | inr f ↦ inr (sym (view.orders.first a.strand.number new.strand.number (record {
+              less = all_known a h;
+              there = (reads.of.strands a h).there;
+            }) (record { less = at_known; there = view.here.there }) ne) ∙ f)
           ]
         ];
       }
@@ -246,7 +265,8 @@ module _ (s : List Event) (table : List Strand) (new : Access) (known : ℕ) (en
             let off = drops.last k.0 k.1 k.2 in
             elim (is_last (take n old) k.0 k.1 k.2 in_order a h) [
               | inl e ↦ subst (IsApart s new.strand) e off
-              | inr lt ↦ λ r. off (reached_from_later s view.sound a.strand k.1.strand new.strand (reads.of.strands a (in_old a h)) (reads.of.strands k.1 there) view.here
+              | inr lt ↦ λ r. off (reached_from_later s view.sound a.strand k.1.strand new.strand (reads.of.strands a (in_old a h))
+                  (reads.of.strands k.1 there) view.here
                   (reads.rising refl a k.1 (in_old a h) there lt) (none_after k.1 there) (reads.apart a k.1 (in_old a h) there lt) r)
             ])
       ]
@@ -258,7 +278,8 @@ module _ (s : List Event) (table : List Strand) (new : Access) (known : ℕ) (en
       ]
 
   -- and those that are left, with the new one, rise
-  pub rise_on : (left : List Access) → AreThoseApart s new.strand old left → ((a : Access) → Among a old → a.place < new.place) → RiseInEnglish s (left ++ new ∷ [])
+  pub rise_on : (left : List Access) → AreThoseApart s new.strand old left → ((a : Access) → Among a old → a.place < new.place)
+      → RiseInEnglish s (left ++ new ∷ [])
   rise_on left those before a b ha hb lt = elim (among_or a left (new ∷ []) ha) [
     | inl l ↦ (
         let k = (those.those a).0 l in
@@ -301,7 +322,8 @@ one_rises s all e a b ha hb lt = go all e ha hb
 
 module _ (table : List Strand) (new : Access) (known : ℕ) (english hebrew : List ℕ) (old after : List Access) where
   -- the last ones are dropped
-  pub keeps_end : EndsBefore english new.strand old → new.strand.number < known → AllOnKnown known old → (n : ℕ) → DropsEnd table new.strand known english hebrew old n → after ≡ take n old ++ new ∷ []
+  pub keeps_end : EndsBefore english new.strand old → new.strand.number < known → AllOnKnown known old → (n : ℕ)
+      → DropsEnd table new.strand known english hebrew old n → after ≡ take n old ++ new ∷ []
       → KeepsRead table new known english hebrew true old true after
   keeps_end ends at_known all_known n drops is s view reads before =
       let those = left_apart s table new known english hebrew view old reads ends at_known all_known n (drops s view reads.of) in (
@@ -310,7 +332,8 @@ module _ (table : List Strand) (new : Access) (known : ℕ) (english hebrew : Li
       )
 
   -- all were looked at
-  pub keeps_all : (rise later answer : Bool) → new.strand.number < known → AllOnKnown known old → (later ≡ true → (rise ≡ true) × EndsBefore english new.strand old) → (answer ≡ true → (later ≡ true) ⊎ (length after ≡ 1))
+  pub keeps_all : (rise later answer : Bool) → new.strand.number < known → AllOnKnown known old
+      → (later ≡ true → (rise ≡ true) × EndsBefore english new.strand old) → (answer ≡ true → (later ≡ true) ⊎ (length after ≡ 1))
       → KeepsAll table new known english hebrew old after → KeepsRead table new known english hebrew rise old answer after
   keeps_all rise later answer at_known all_known late either all s view reads before =
       let more = all s view reads.of in (
@@ -320,12 +343,17 @@ module _ (table : List Strand) (new : Access) (known : ℕ) (english hebrew : Li
           | inl l ↦ (
               let k = late l in
               subst (RiseInEnglish s) (sym more.after_is)
-              (rise_on s table new known english hebrew view old (record { of = reads.of; apart = reads.apart; rising = λ _. reads.rising k.0 }) k.1 at_known all_known more.left more.those before))
+              (rise_on s table new known english hebrew view old (record {
+                of = reads.of;
+                apart = reads.apart;
+                rising = λ _. reads.rising k.0;
+              }) k.1 at_known all_known more.left more.those before))
         ],
       )
 
   -- the same by what a judge says at another time
-  pub all_at : (known' : ℕ) (english' hebrew' : List ℕ) → known' ≡ known → english' ≡ english → hebrew' ≡ hebrew → KeepsAll table new known' english' hebrew' old after → KeepsAll table new known english hebrew old after
+  pub all_at : (known' : ℕ) (english' hebrew' : List ℕ) → known' ≡ known → english' ≡ english → hebrew' ≡ hebrew
+      → KeepsAll table new known' english' hebrew' old after → KeepsAll table new known english hebrew old after
   all_at known' english' hebrew' k e h l =
       subst (λ n. KeepsAll table new n english hebrew old after) k
       (subst (λ n. KeepsAll table new known' n hebrew old after) e
@@ -347,7 +375,8 @@ among_more n old after new is a h = elim (among_or a (take n old) (new ∷ []) (
   | inr (inr z) ↦ absurd z
 ]
 
-pub among_one_more : (left old after : List Access) (new : Access) → ((a : Access) → Among a left → Among a old) → after ≡ left ++ new ∷ [] → (a : Access) → Among a after → Among a old ⊎ (new ≡ a)
+pub among_one_more : (left old after : List Access) (new : Access) → ((a : Access) → Among a left → Among a old) → after ≡ left ++ new ∷ [] → (a : Access)
+    → Among a after → Among a old ⊎ (new ≡ a)
 among_one_more left old after new some is a h = elim (among_or a left (new ∷ []) (subst (Among a) is h)) [
   | inl l ↦ inl (some a l)
   | inr (inl e) ↦ inr e

@@ -14,7 +14,8 @@ IsApart s at a = ReachesBy (edges_of s) a.strand.number at.number → ⊥
 -- the place of the last of these accesses from which a strand is not reached, or that it is reached from each
 abbrev pub IsLastApart : List Event → Strand → List Access → Option ℕ → Type 0
 IsLastApart s at all None = (a : Access) → Among a all → ReachesBy (edges_of s) a.strand.number at.number
-IsLastApart s at all (Some place) = (a : Access) × Among a all × (a.place ≡ place) × IsApart s at a × ((b : Access) → Among b all → IsApart s at b → b.place ≤ a.place)
+IsLastApart s at all (Some place) = (a : Access) × Among a all × (a.place ≡ place) × IsApart s at
+    a × ((b : Access) → Among b all → IsApart s at b → b.place ≤ a.place)
 
 -- accesses in order, each on a strand of these structural events
 pub record AreOf (s : List Event) (all : List Access) : Type 0 where

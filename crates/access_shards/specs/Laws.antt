@@ -28,7 +28,8 @@ AreOn s past = (t : Touch Kind) → Among t past → t.strand < next_strand (rev
 
 -- with further structural events the same is kept
 abbrev pub KeptStays : Type 0
-KeptStays = (s more : List Event) (past : List (Touch Kind)) (kept : Kept) → IsSound (s ++ more) → AreOn s past → IsKept s past kept → IsKept (s ++ more) past kept
+KeptStays = (s more : List Event) (past : List (Touch Kind)) (kept : Kept) → IsSound (s ++ more) → AreOn s past → IsKept s past
+    kept → IsKept (s ++ more) past kept
 
 -- and the log of some accesses is still their log
 abbrev pub LogStays : Type 0
@@ -36,7 +37,8 @@ LogStays = (s more : List Event) (past : List (Touch Kind)) (l : Logged) → IsS
 
 -- and still no path leads from an access to another strand of an earlier one
 abbrev pub LateStays : Type 0
-LateStays = (s more : List Event) (past : List (Touch Kind)) → IsSound (s ++ more) → AreOn s past → IsLate (edges_of s) past → IsLate (edges_of (s ++ more)) past
+LateStays = (s more : List Event) (past : List (Touch Kind)) → IsSound (s ++ more) → AreOn s past → IsLate (edges_of s)
+    past → IsLate (edges_of (s ++ more)) past
 
 -- on the current strand of a task that has not ended one more access may come
 abbrev pub CurrentMayCome : Type 0
@@ -53,7 +55,8 @@ NoPathBack =
 
 -- so the accesses of each cell are late, and their places rise
 abbrev pub AccessesAreLate : Type 0
-AccessesAreLate = (h : List Event) (c : ℕ) → IsInStep h → IsRising (touches_of c h) × IsLate (edges_of h) (touches_of c h) × AreOn (structure_of h) (touches_of c h)
+AccessesAreLate = (h : List Event) (c : ℕ) → IsInStep h → IsRising (touches_of c h) × IsLate (edges_of h) (touches_of c h) × AreOn
+    (structure_of h) (touches_of c h)
 
 -- two places of a history race on a cell exactly where its accesses there do
 abbrev pub RacesAreOfAccesses : Type 0

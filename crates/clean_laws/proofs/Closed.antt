@@ -58,11 +58,11 @@ same_block [] t = refl
 same_block (e ∷ past) t = block_next past (same_block past) e.task e.strand e.action t
 
 -- where a task stands after an action: as before, or on a new strand
-abbrev pub Place : List Event → ℕ → ℕ → Action → ℕ → Type 0
-Place past t s a q = ((q < next_task past) × ((frame (ev t s a ∷ past) q).cur ≡ (frame past q).cur)) ⊎ ((next_strand past ≤ (frame (ev t s a ∷ past) q).cur) × ((t ≡ q) ⊎ Makes a q))
+abbrev pub Standing : List Event → ℕ → ℕ → Action → ℕ → Type 0
+Standing past t s a q = ((q < next_task past) × ((frame (ev t s a ∷ past) q).cur ≡ (frame past q).cur)) ⊎ ((next_strand past ≤ (frame (ev t s a ∷ past) q).cur) × ((t ≡ q) ⊎ Makes a q))
 
 module _ (past : List Event) (sp : IsSoundPast past) (t s : ℕ) where
-  own_place : (a : Action) (m : MayFollow past (ev t s a)) → Place past t s a t
+  own_place : (a : Action) (m : MayFollow past (ev t s a)) → Standing past t s a t
   own_place (Reads _ _) m = absurd m.acts
   own_place (Writes _ _) m = absurd m.acts
   own_place (Spawns code c k y args) m =
@@ -75,7 +75,7 @@ module _ (past : List Event) (sp : IsSoundPast past) (t s : ℕ) where
   own_place (Gets f g x) m = inr (omega (arith, sync_cur past sp t s x [], m.acts.0), inl refl)
   own_place (Ends v) m = inl ((acting past t s (linked past sp) (Ends v) m).0, ap (λ (z : Task). z.cur) (if_self t (record (frame past t) { ended = true }) (frame past t)))
 
-  kid_place : (a : Action) (m : MayFollow past (ev t s a)) (q : ℕ) → q ≡ next_task past → q < next_task (ev t s a ∷ past) → Place past t s a q
+  kid_place : (a : Action) (m : MayFollow past (ev t s a)) (q : ℕ) → q ≡ next_task past → q < next_task (ev t s a ∷ past) → Standing past t s a q
   kid_place (Reads _ _) m q e l = absurd m.acts
   kid_place (Writes _ _) m q e l = absurd m.acts
   kid_place (Spawns code c k y args) m q e l =
@@ -88,9 +88,9 @@ module _ (past : List Event) (sp : IsSoundPast past) (t s : ℕ) where
   kid_place (Gets f g x) m q e l = absurd (omega arith)
   kid_place (Ends v) m q e l = absurd (omega arith)
 
-  pub placed : (a : Action) (m : MayFollow past (ev t s a)) (q : ℕ) → q < next_task (ev t s a ∷ past) → Place past t s a q
+  pub placed : (a : Action) (m : MayFollow past (ev t s a)) (q : ℕ) → q < next_task (ev t s a ∷ past) → Standing past t s a q
   placed a m q l = elim (cases_eq q t) [
-    | inl e ↦ subst (λ z. Place past t s a z) (sym e) (own_place a m)
+    | inl e ↦ subst (λ z. Standing past t s a z) (sym e) (own_place a m)
     | inr ne ↦ elim (all_tasks past sp t s a m q l) [
       | inl o ↦ inl (o, else_same past sp t s a m q o ne)
       | inr n ↦ kid_place a m q n.0 l

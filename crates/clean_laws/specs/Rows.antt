@@ -24,7 +24,9 @@ apart_program =
       others =
           tree.TaskOf (codes "kid") [] 0 (tree.Then (tree.Store (codes "a") (literal 1) (literal 1)) (tree.Then (tree.Return' (literal 0)) tree.Done))
           ∷ tree.TaskOf (codes "main") [] 0
-          (tree.Then (tree.SpawnOf (codes "kid") []) (tree.Then (tree.Store (codes "a") (literal 0) (literal 2)) (tree.Then tree.SyncAll (tree.Then (tree.Return' (literal 0)) tree.Done))))
+          (tree.Then (tree.SpawnOf (codes "kid") [])
+          (tree.Then (tree.Store (codes "a") (literal 0) (literal 2))
+          (tree.Then tree.SyncAll (tree.Then (tree.Return' (literal 0)) tree.Done))))
           ∷ [];
     }
 

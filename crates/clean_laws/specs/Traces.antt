@@ -25,5 +25,6 @@ pub record IsSameRun (names : Names) (g h : List Event) (n m : Machine) : Type 0
   pub rights : (u : ℕ) → u < length m.tasks → (t : ℕ) × Matched names t u
   pub mates : (t u v : ℕ) → Matched names t u → Matched names t v → u ≡ v
   pub single : (t s u : ℕ) → Matched names t u → Matched names s u → t ≡ s
-  pub tasks : (t u : ℕ) (q r : Running) → Matched names t u → slice_get n.tasks t ≡ Some q → slice_get m.tasks u ≡ Some r → (q.which ≡ r.which) × SameOption (Matched names) q.value r.value
+  pub tasks : (t u : ℕ) (q r : Running) → Matched names t u → slice_get n.tasks t ≡ Some q → slice_get m.tasks u ≡ Some r
+      → (q.which ≡ r.which) × SameOption (Matched names) q.value r.value
   pub traces : (t u : ℕ) → Matched names t u → SameTrace names (events_by t (reverse g)) (events_by u (reverse h))

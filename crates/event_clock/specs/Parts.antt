@@ -29,6 +29,7 @@ Rises (x ∷ xs) = ((y : ℕ × Event) → Among y xs → x.0 < y.0) × Rises xs
 abbrev pub tickets : Size → State (Unit {0}) View → ℕ
 tickets size s = min (slice_index s.words 0) size.bound
 
+-- how many late draws all views have
 abbrev pub lates : State (Unit {0}) View → ℕ
 lates s = total (λ v. v.late) s.views
 
@@ -36,6 +37,7 @@ lates s = total (λ v. v.late) s.views
 abbrev pub WasMade : State (Unit {0}) View → ℕ → Type 0
 WasMade s t = (t ≡ 0) ⊎ ((p : Own) × (x : ℕ × Event) × IsOwn s p × Among x p.entries × (is_child t x.1.action ≡ true))
 
+-- what is shared out among the views
 pub record HasParts (size : Size) (s : State (Unit {0}) View) : Type 0 where
   -- holder numbers: each is below the number of holders, and stands in one view, once
   pub number_below : (p : Own) → IsOwn s p → p.number < size.holders

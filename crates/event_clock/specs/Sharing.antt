@@ -15,6 +15,7 @@ use Rattle.event_clock.specs.Closing.{IsClosed}
 abbrev pub IsOwnOf : List Seated → Own → Type 0
 IsOwnOf us p = (u : Seated) × Among u us × Among p u.view.own
 
+-- the tickets of a closed clock are shared out among the own lists
 pub record SharesOut (size : Size) (holders passes : List Seated) (count : ℕ) : Type 0 where
   -- the tickets below the lesser of count and bound stand in the own lists, each once, and each list rises
   pub below : (p : Own) (x : ℕ × Event) → IsOwnOf holders p → Among x p.entries → x.0 < min count size.bound
@@ -36,5 +37,6 @@ pub record SharesOut (size : Size) (holders passes : List Seated) (count : ℕ) 
   -- a holder that was turned away saw the bound reached
   pub late : (u : Seated) → Among u holders → 0 < u.view.late → size.bound < count
 
+-- so it is of each clock that is closed
 abbrev pub ClosedSharesOut : Type 0
 ClosedSharesOut = (size : Size) (holders passes : List Seated) (count : ℕ) → IsClosed size holders passes count → SharesOut size holders passes count

@@ -169,7 +169,13 @@ split_off v = record v { own = []; late = 0 }
 -- one view of two
 abbrev pub joined : View → View → View
 joined v w =
-    record v { own = v.own ++ w.own; known = wider v.known w.known; olds = v.known ∷ w.known ∷ (v.olds ++ w.olds); tasks = v.tasks ++ w.tasks; late = v.late + w.late }
+    record v {
+      own = v.own ++ w.own;
+      known = wider v.known w.known;
+      olds = v.known ∷ w.known ∷ (v.olds ++ w.olds);
+      tasks = v.tasks ++ w.tasks;
+      late = v.late + w.late;
+    }
 
 -- what the other of the two leaves
 abbrev pub left_behind : View

@@ -34,7 +34,8 @@ before_lt : (labels xs : List ℕ) (low high x y : ℕ) → Rises labels low hig
 before_lt labels [] low high x y r h = cc
 before_lt labels (z ∷ zs) low high x y r h =
     elim (tested (z == x)) [
-      | inl e ↦ (let same = eq_of z x e in let above = later_above labels zs (slice_index labels z + 1) high y r.2 (rw e at h) in subst (λ v. slice_index labels v < slice_index labels y) same (omega (arith, above)))
+      | inl e ↦ (let same = eq_of z x e in let above = later_above labels zs (slice_index labels z + 1) high y r.2 (rw e at h) in
+          subst (λ v. slice_index labels v < slice_index labels y) same (omega (arith, above)))
       | inr e ↦ (
           let h' = rw e at h in
           elim (tested (z == y)) [
@@ -43,7 +44,8 @@ before_lt labels (z ∷ zs) low high x y r h =
           ])
     ]
 
-not_before : (labels xs : List ℕ) (low high x y : ℕ) → Rises labels low high xs → is_in x xs ≡ true → is_in y xs ≡ true → stands_before x y xs ≡ false → slice_index labels y ≤ slice_index labels x
+not_before : (labels xs : List ℕ) (low high x y : ℕ) → Rises labels low high xs → is_in x xs ≡ true → is_in y xs ≡ true → stands_before x y xs ≡ false
+    → slice_index labels y ≤ slice_index labels x
 not_before labels [] low high x y r hx hy h = cc
 not_before labels (z ∷ zs) low high x y r hx hy h =
     elim (tested (z == x)) [
@@ -62,7 +64,8 @@ lt_is true a b h k = let lt = h refl in grind (arith, nat_tests)
 lt_is false a b h k = let le = k refl in grind (arith, nat_tests)
 
 -- labels tell the order
-pub before_is : (labels xs : List ℕ) (low high x y : ℕ) → Rises labels low high xs → is_in x xs ≡ true → is_in y xs ≡ true → nat_lt (slice_index labels x) (slice_index labels y) ≡ stands_before x y xs
+pub before_is : (labels xs : List ℕ) (low high x y : ℕ) → Rises labels low high xs → is_in x xs ≡ true → is_in y xs ≡ true
+    → nat_lt (slice_index labels x) (slice_index labels y) ≡ stands_before x y xs
 before_is labels xs low high x y r hx hy = lt_is _ _ _ (before_lt labels xs low high x y r) (not_before labels xs low high x y r hx hy)
 
 -- an item's next one is kept
@@ -80,7 +83,8 @@ next_is nexts (z ∷ y ∷ ys) x l h =
     ]
 
 -- what labels that were read say of the order
-pub kept_before : (labels : List ℕ) (nexts prevs : List (Option ℕ)) (order : List ℕ) (x y a b : ℕ) → Keeps labels nexts prevs order → x < length order → y < length order → a ≡ get_or labels x a → b ≡ get_or labels y b → nat_lt a b ≡ stands_before x y order
+pub kept_before : (labels : List ℕ) (nexts prevs : List (Option ℕ)) (order : List ℕ) (x y a b : ℕ) → Keeps labels nexts prevs order → x < length order
+    → y < length order → a ≡ get_or labels x a → b ≡ get_or labels y b → nat_lt a b ≡ stands_before x y order
 kept_before labels nexts prevs order x y a b k x_in y_in a_is b_is =
     let c = k.count in
     let s = k.same_count in
@@ -89,7 +93,8 @@ kept_before labels nexts prevs order x y a b k x_in y_in a_is b_is =
     rw (ra, rb) (before_is labels order 0 (2 ^ 62) x y k.rises (k.whole x (omega arith)) (k.whole y (omega arith)))
 
 -- the next item that was read is the next one of the order
-pub kept_next : (labels : List ℕ) (nexts prevs : List (Option ℕ)) (order : List ℕ) (x : ℕ) (o : Option ℕ) → Keeps labels nexts prevs order → x < length order → o ≡ get_or nexts x o → o ≡ next_of x order
+pub kept_next : (labels : List ℕ) (nexts prevs : List (Option ℕ)) (order : List ℕ) (x : ℕ) (o : Option ℕ) → Keeps labels nexts prevs order → x < length order
+    → o ≡ get_or nexts x o → o ≡ next_of x order
 kept_next labels nexts prevs order x o k x_in is =
     let c = k.count in
     get_or_read nexts x o (omega arith) is None ∙ next_is nexts order x k.linked (k.whole x (omega arith))

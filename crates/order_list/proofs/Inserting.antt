@@ -1,5 +1,6 @@
 -- An item that is put after another.
-use Rattle.std.proofs.Common.{◌≡◌, ◌≢◌, ℕ, zero, suc, ◌+◌, ◌<◌, ◌≤◌, ◌^◌, true, false, List, [], ◌∷◌, ◌++◌, inl, inr, length, length-append, get_or, set, sym, ◌∙◌, subst, refl, ap, arith, get_or-set_same, get_or-set_other}
+use Rattle.std.proofs.Common.{◌≡◌, ◌≢◌, ℕ, zero, suc, ◌+◌, ◌<◌, ◌≤◌, ◌^◌, true, false, List, [], ◌∷◌, ◌++◌, inl, inr, length, length-append, get_or, set, sym}
+use Rattle.std.proofs.Common.{◌∙◌, subst, refl, ap, arith, get_or-set_same, get_or-set_other}
 use Rattle.std.specs.Prelude.{Option, Some, None, IfSome, ◌==◌, slice_index, slice_set}
 use Rattle.std.proofs.Math.ListN.{length-set, get_or-append}
 use Rattle.std.proofs.Math.Seq.{get_or-append_seam}
@@ -38,7 +39,8 @@ module _ (labels labels' : List ℕ) (nexts nexts' : List (Option ℕ)) (n x ite
         | inr e ↦ (same z b.0 (other z x (y ∷ ys) out) ∙ l.0, linked_rest (y ∷ ys) b.1 (rw e at out) l.1)
       ]
 
-  linked_insert : (zs : List ℕ) (low : ℕ) → AllBelow n zs → Rises labels low (2 ^ 62) zs → Linked nexts zs → is_in x zs ≡ true → get_or nexts' item None ≡ next_of x zs → Linked nexts' (put_after x (item ∷ []) zs)
+  linked_insert : (zs : List ℕ) (low : ℕ) → AllBelow n zs → Rises labels low (2 ^ 62) zs → Linked nexts zs → is_in x zs ≡ true
+      → get_or nexts' item None ≡ next_of x zs → Linked nexts' (put_after x (item ∷ []) zs)
   linked_insert [] low b r l in_ at = tt
   linked_insert (z ∷ []) low b r l in_ at =
       elim (tested (z == x)) [
@@ -58,7 +60,8 @@ module _ (labels labels' : List ℕ) (nexts nexts' : List (Option ℕ)) (n x ite
   rises_rest [] low b r = tt
   rises_rest (z ∷ zs) low b r = rw (same_label z b.0) (r.0, r.1, rises_rest zs (slice_index labels z + 1) b.1 r.2)
 
-  rises_insert : (zs : List ℕ) (low : ℕ) → AllBelow n zs → Rises labels low (2 ^ 62) zs → is_in x zs ≡ true → slice_index labels x < label → label < high_by labels (next_of x zs) → Rises labels' low (2 ^ 62) (put_after x (item ∷ []) zs)
+  rises_insert : (zs : List ℕ) (low : ℕ) → AllBelow n zs → Rises labels low (2 ^ 62) zs → is_in x zs ≡ true → slice_index labels x < label
+      → label < high_by labels (next_of x zs) → Rises labels' low (2 ^ 62) (put_after x (item ∷ []) zs)
   rises_insert [] low b r in_ lt up = tt
   rises_insert (z ∷ []) low b r in_ lt up =
       elim (tested (z == x)) [
@@ -73,7 +76,16 @@ module _ (labels labels' : List ℕ) (nexts nexts' : List (Option ℕ)) (n x ite
         | inl e ↦ (
             let s = ap (slice_index labels) (eq_of z x e) in
             let up' : label < slice_index labels y = rw e at up in
-            rw e (rw (same_label z b.0, at_item) (r.0, r.1, (omega (arith, s), omega (arith, up', r.2.1), rises_rest (y ∷ ys) (label + 1) b.1 (omega (arith, up'), r.2.1, r.2.2)))))
+            rw e (rw (same_label z b.0, at_item) (
+              r.0,
+              r.1,
+              (
+                omega (arith, s),
+                omega (arith, up', r.2.1),
+                rises_rest (y ∷ ys) (label + 1) b.1
+                    (omega (arith, up'), r.2.1, r.2.2),
+              ),
+            )))
         | inr e ↦ rw e (rw (same_label z b.0) (r.0, r.1, rises_insert (y ∷ ys) (slice_index labels z + 1) b.1 r.2 (rw e at in_) lt (rw e at up)))
       ]
 
@@ -156,7 +168,8 @@ module _ (labels : List ℕ) (prevs prevs' : List (Option ℕ)) (n x item : ℕ)
   back_rest [] at b out l = tt
   back_rest (z ∷ zs) at b out l = (same z b.0 (out z (head_in z zs)) ∙ l.0, back_rest zs (Some z) b.1 (λ y h. out y (in_rest y z zs h)) l.1)
 
-  back_insert : (zs : List ℕ) (at : Option ℕ) (low : ℕ) → AllBelow n zs → Rises labels low (2 ^ 62) zs → is_in x zs ≡ true → next_of x zs ≡ next → LinkedBack prevs at zs → LinkedBack prevs' at (put_after x (item ∷ []) zs)
+  back_insert : (zs : List ℕ) (at : Option ℕ) (low : ℕ) → AllBelow n zs → Rises labels low (2 ^ 62) zs → is_in x zs ≡ true → next_of x zs ≡ next
+      → LinkedBack prevs at zs → LinkedBack prevs' at (put_after x (item ∷ []) zs)
   back_insert [] at low b r in_ is l = tt
   back_insert (z ∷ []) at low b r in_ is l =
       elim (tested (z == x)) [
@@ -172,11 +185,16 @@ module _ (labels : List ℕ) (prevs prevs' : List (Option ℕ)) (n x item : ℕ)
             let s = eq_of z x e in
             let next_is : Some y ≡ next = rw e at is in
             let apart_z : next ≢ Some z = λ some. (let t : y ≡ z = cc in absurd (omega (arith, r.2.0, ap (slice_index labels) t))) in
-            let out : (w : ℕ) → is_in w ys ≡ true → next ≢ Some w = λ w h some. (let t : y ≡ w = cc in absurd (omega (arith, later_above labels ys (slice_index labels y + 1) (2 ^ 62) w r.2.2 h, ap (slice_index labels) t))) in
+            let out : (w : ℕ) → is_in w ys ≡ true → next ≢ Some w = λ w h some. (let t : y ≡ w = cc in
+            absurd (omega (arith, later_above labels ys (slice_index labels y + 1) (2 ^ 62) w r.2.2 h, ap (slice_index labels) t))) in
             rw e (same z b.0 apart_z ∙ l.0, (at_item ∙ ap (λ v. Some v) (sym s), (at_next y (sym next_is), back_rest ys (Some y) b.1.1 out l.1.1))))
         | inr e ↦ (
             let is' : next_of x (y ∷ ys) ≡ next = rw e at is in
-            let apart_z : next ≢ Some z = λ some. absurd (omega (arith, later_above labels (y ∷ ys) (slice_index labels z + 1) (2 ^ 62) z r.2 (next_in x z (y ∷ ys) (is' ∙ some)))) in
+            let apart_z : next ≢ Some z = λ some. absurd (omega (
+              arith,
+              later_above labels (y ∷ ys) (slice_index labels z + 1) (2 ^ 62) z r.2
+                  (next_in x z (y ∷ ys) (is' ∙ some)),
+            )) in
             rw e (same z b.0 apart_z ∙ l.0, back_insert (y ∷ ys) (Some z) (slice_index labels z + 1) b.1 r.2 (rw e at in_) is' l.1))
       ]
 
@@ -193,7 +211,8 @@ numbered labels nexts prevs order k =
     record { below = subst (λ n. AllBelow n order) (sym k.count) k.below; whole = λ x lt. k.whole x (omega (arith, lt, k.count)) }
 
 -- what the fields keep, as the value shows it
-pub kept : (labels : List ℕ) (nexts prevs : List (Option ℕ)) (order : List ℕ) (room : ℕ) → Keeps labels nexts prevs order → IsKept (record { order = order; labels = labels; room = room })
+pub kept : (labels : List ℕ) (nexts prevs : List (Option ℕ)) (order : List ℕ) (room : ℕ) → Keeps labels nexts prevs order
+    → IsKept (record { order = order; labels = labels; room = room })
 kept labels nexts prevs order room k =
     record { numbered = numbered labels nexts prevs order k; counted = k.same_count ∙ sym k.count; rises = k.rises }
 
@@ -292,8 +311,13 @@ module _ (labels : List ℕ) (nexts prevs : List (Option ℕ)) (x label : ℕ) (
   }
 
 -- after the writes the chain is the list with the item put in, and what is kept holds of it
-pub linked_in : (labels : List ℕ) (nexts prevs : List (Option ℕ)) (n m x label item : ℕ) (next : Option ℕ) (labels' : List ℕ) (grown back : List (Option ℕ)) → n ≡ length nexts → m ≡ n + 1 → item ≡ n → next ≡ get_or nexts x next → labels' ≡ labels ++ label ∷ [] → grown ≡ nexts ++ next ∷ [] → back ≡ prevs ++ Some x ∷ [] → Keeps labels nexts prevs (walk nexts n (Some 0)) → x < length (walk nexts n (Some 0)) → slice_index labels x < label → label < high_by labels (next_of x (walk nexts n (Some 0))) → IsLinked labels' (slice_set grown x (Some item)) (with_prev back next item) m (put_after x (item ∷ []) (walk nexts n (Some 0)))
-linked_in labels nexts prevs zero m x label item next labels' grown back n_is m_is item_is next_is' labels_is grown_is back_is k x_in lt up = absurd (omega arith)
+pub linked_in : (labels : List ℕ) (nexts prevs : List (Option ℕ)) (n m x label item : ℕ) (next : Option ℕ) (labels' : List ℕ) (grown back : List (Option ℕ))
+    → n ≡ length nexts → m ≡ n + 1 → item ≡ n → next ≡ get_or nexts x next → labels' ≡ labels ++ label ∷ [] → grown ≡ nexts ++ next ∷ []
+    → back ≡ prevs ++ Some x ∷ [] → Keeps labels nexts prevs (walk nexts n (Some 0)) → x < length (walk nexts n (Some 0)) → slice_index labels x < label
+    → label < high_by labels (next_of x (walk nexts n (Some 0)))
+    → IsLinked labels' (slice_set grown x (Some item)) (with_prev back next item) m (put_after x (item ∷ []) (walk nexts n (Some 0)))
+linked_in labels nexts prevs zero m x label item next labels' grown back n_is m_is item_is next_is' labels_is grown_is back_is k
+    x_in lt up = absurd (omega arith)
 linked_in labels nexts prevs (suc n) m x label item next labels' grown back n_is m_is item_is next_is' labels_is grown_is back_is k x_in lt up =
     let order = walk nexts (suc n) (Some 0) in
     let read : next ≡ next_of x order = kept_next labels nexts prevs order x next k x_in next_is' in
@@ -301,13 +325,19 @@ linked_in labels nexts prevs (suc n) m x label item next labels' grown back n_is
     let kept = insert_keeps labels nexts prevs x label order k x_in lt up in
     let len = count_insert x (length nexts) order (k.whole x (omega (arith, k.count))) in
     let chain = walk_is (set (nexts ++ next_of x order ∷ []) x (Some (length nexts))) m _ 0 kept.linked (omega (arith, len, k.count)) in
-    let P : ℕ → Option ℕ → List ℕ → List (Option ℕ) → List (Option ℕ) → Type 0 = λ i o ls ns ps. IsLinked ls (slice_set ns x (Some i)) (with_prev ps o i) m (put_after x (i ∷ []) order) in
+    let P : ℕ → Option ℕ → List ℕ → List (Option ℕ) → List (Option ℕ) → Type 0 = λ i o ls ns ps. IsLinked ls (slice_set ns x (Some i)) (with_prev ps o
+    i) m (put_after x (i ∷ []) order) in
     let grown_to : grown ≡ nexts ++ next_of x order ∷ [] = grown_is ∙ ap (λ o. nexts ++ o ∷ []) read in
     let ns = nexts ++ next_of x order ∷ [] in
     let ps = prevs ++ Some x ∷ [] in
     let ls = labels ++ label ∷ [] in
-    subst (λ i. P i next labels' grown back) (sym item_len) (subst (λ o. P (length nexts) o labels' grown back) (sym read) (subst (λ l. P (length nexts) (next_of x order) l grown back) (sym labels_is) (subst (λ l. P (length nexts) (next_of x order) ls l back) (sym grown_to) (subst (λ l. P (length nexts) (next_of x order) ls ns l) (sym back_is)
-    (record { keeps = subst (λ o. Keeps ls (set ns x (Some (length nexts))) (with_prev ps (next_of x order) (length nexts)) o) (sym chain) kept; order_is = chain })))))
+    subst (λ i. P i next labels' grown back) (sym item_len) (subst (λ o. P (length nexts) o labels' grown back) (sym read)
+    (subst (λ l. P (length nexts) (next_of x order) l grown back) (sym labels_is)
+    (subst (λ l. P (length nexts) (next_of x order) ls l back) (sym grown_to) (subst (λ l. P (length nexts) (next_of x order) ls ns l) (sym back_is)
+    (record {
+      keeps = subst (λ o. Keeps ls (set ns x (Some (length nexts))) (with_prev ps (next_of x order) (length nexts)) o) (sym chain) kept;
+      order_is = chain;
+    })))))
 
 -- the next item is one of the list, and its label is greater
 pub record Next (labels : List ℕ) (n x : ℕ) (o : Option ℕ) : Type 0 where
@@ -329,7 +359,9 @@ next_at labels n x low (z ∷ y ∷ ys) b r h =
     ]
 
 -- the same of the next item that was read
-pub next_read : (labels : List ℕ) (nexts prevs : List (Option ℕ)) (order : List ℕ) (x : ℕ) (o : Option ℕ) → Keeps labels nexts prevs order → x < length order → o ≡ get_or nexts x o → Next labels (length nexts) x o
+pub next_read : (labels : List ℕ) (nexts prevs : List (Option ℕ)) (order : List ℕ) (x : ℕ) (o : Option ℕ) → Keeps labels nexts prevs order → x < length order
+    → o ≡ get_or nexts x o → Next labels (length nexts) x o
 next_read labels nexts prevs order x o k x_in is =
     let c = k.count in
-    subst (λ p. Next labels (length nexts) x p) (sym (kept_next labels nexts prevs order x o k x_in is)) (next_at labels (length nexts) x 0 order k.below k.rises (k.whole x (omega arith)))
+    subst (λ p. Next labels (length nexts) x p) (sym (kept_next labels nexts prevs order x o k x_in is))
+    (next_at labels (length nexts) x 0 order k.below k.rises (k.whole x (omega arith)))

@@ -44,12 +44,15 @@ labels_after old mid x w m = by_window w m.labels_are
 
     by_window : (w : Option Window) → SpacedBy old x mid.labels w → LabelsAfter old x (with_middle mid x)
     by_window None s =
-        subst (LabelsAfter old x) (sym (ap (λ h. mid.labels ++ middle_of (slice_index mid.labels x) h ∷ []) (high_is mid.labels) ∙ ap (λ ls. ls ++ middle_of (slice_index ls x) (high_by ls (next_of x old.order)) ∷ []) s.1)) (middle_after old x s.0)
+        subst (LabelsAfter old x) (sym (ap (λ h. mid.labels ++ middle_of (slice_index mid.labels x) h ∷ []) (high_is mid.labels)
+        ∙ ap (λ ls. ls ++ middle_of (slice_index ls x) (high_by ls (next_of x old.order)) ∷ []) s.1)) (middle_after old x s.0)
     by_window (Some w) s =
-        subst (LabelsBy old x (with_middle mid x)) (sym s.0) (w, mid.labels, s.1, ap (λ h. mid.labels ++ middle_of (slice_index mid.labels x) h ∷ []) (high_is mid.labels))
+        subst (LabelsBy old x (with_middle mid x)) (sym s.0)
+        (w, mid.labels, s.1, ap (λ h. mid.labels ++ middle_of (slice_index mid.labels x) h ∷ []) (high_is mid.labels))
 
 -- an insert where there is a label between, after a relabelling, is an insert into the list from before it
-pub inserted_after : (old mid new : Ordered) (x item : ℕ) (w : Option Window) → HasMadeSpace old x w mid → HasInserted mid x item new → HasInserted old x item new
+pub inserted_after : (old mid new : Ordered) (x item : ℕ) (w : Option Window) → HasMadeSpace old x w mid → HasInserted mid x item new
+    → HasInserted old x item new
 inserted_after old mid new x item w m i = record {
   number = i.number ∙ ap (λ order. length order) m.order_is;
   order_is = i.order_is ∙ ap (λ order. put_after x (item ∷ []) order) m.order_is;

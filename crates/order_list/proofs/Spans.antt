@@ -1,5 +1,6 @@
 -- Items that stand together.
-use Rattle.std.proofs.Common.{◌≡◌, ℕ, ◌+◌, ◌^◌, ◌<◌, ◌≤◌, ◌∙◌, ◌⊎◌, inl, inr, true, false, List, [], ◌∷◌, ◌++◌, length, length-append, append_assoc, sym, subst, ap, refl, arith}
+use Rattle.std.proofs.Common.{◌≡◌, ℕ, ◌+◌, ◌^◌, ◌<◌, ◌≤◌, ◌∙◌, ◌⊎◌, inl, inr, true, false, List, [], ◌∷◌, ◌++◌, length, length-append, append_assoc, sym, subst}
+use Rattle.std.proofs.Common.{ap, refl, arith}
 use Rattle.std.specs.Prelude.{Option, Some, None, slice_index, slice_index_or}
 use Rattle.std.proofs.lemmas.Bool.Decides.{nat_tests}
 use Rattle.order_list.specs.Ordered.{AllBelow, Rises, head_of}
@@ -54,10 +55,12 @@ pub record HasGone (labels : List ℕ) (links : List (Option ℕ)) (low high fro
   pub last_is : last ≡ last_of from done
   pub count : k ≡ length done
 
-pub gone_none : (labels : List ℕ) (links : List (Option ℕ)) (low high from : ℕ) (xs : List ℕ) (at : Option ℕ) → Leads links at xs → HasGone labels links low high from xs 0 from at
+pub gone_none : (labels : List ℕ) (links : List (Option ℕ)) (low high from : ℕ) (xs : List ℕ) (at : Option ℕ) → Leads links at xs
+    → HasGone labels links low high from xs 0 from at
 gone_none labels links low high from xs at l = record { done = []; rest = xs; parts = refl; between = tt; leads = l; last_is = refl; count = refl }
 
-between_more : (labels : List ℕ) (low high x : ℕ) (done : List ℕ) → AllBetween labels low high done → low ≤ slice_index labels x → slice_index labels x < high → AllBetween labels low high (done ++ x ∷ [])
+between_more : (labels : List ℕ) (low high x : ℕ) (done : List ℕ) → AllBetween labels low high done → low ≤ slice_index labels x → slice_index labels x < high
+    → AllBetween labels low high (done ++ x ∷ [])
 between_more labels low high x [] b le lt = (le, lt, tt)
 between_more labels low high x (z ∷ zs) b le lt = (b.0, b.1, between_more labels low high x zs b.2 le lt)
 
@@ -105,7 +108,9 @@ module _ (labels : List ℕ) (links : List (Option ℕ)) (low high from : ℕ) (
   }
 
 -- where the next item is out of the range
-pub gone_out : (labels : List ℕ) (links : List (Option ℕ)) (low high from : ℕ) (xs : List ℕ) (k last : ℕ) (at : Option ℕ) → HasGone labels links low high from xs k last at → next_between labels low high at ≡ None → IsStretch labels links low high from xs (record { last = last; items = k; stop = at })
+pub gone_out : (labels : List ℕ) (links : List (Option ℕ)) (low high from : ℕ) (xs : List ℕ) (k last : ℕ) (at : Option ℕ)
+    → HasGone labels links low high from xs k last at → next_between labels low high at ≡ None
+    → IsStretch labels links low high from xs (record { last = last; items = k; stop = at })
 gone_out labels links low high from xs k last at g out =
     record { taken = g.done; rest = g.rest; parts = g.parts; between = g.between; leads = g.leads; out = out; last = g.last_is; count = g.count }
 
@@ -114,7 +119,8 @@ none_left : (links : List (Option ℕ)) (at : Option ℕ) (rest : List ℕ) → 
 none_left links at [] le l = l
 none_left links at (x ∷ xs) le l = absurd (omega arith)
 
-pub gone_all : (labels : List ℕ) (links : List (Option ℕ)) (low high from : ℕ) (xs : List ℕ) (k last : ℕ) (at : Option ℕ) → HasGone labels links low high from xs k last at → length xs ≤ k → IsStretch labels links low high from xs (record { last = last; items = k; stop = at })
+pub gone_all : (labels : List ℕ) (links : List (Option ℕ)) (low high from : ℕ) (xs : List ℕ) (k last : ℕ) (at : Option ℕ)
+    → HasGone labels links low high from xs k last at → length xs ≤ k → IsStretch labels links low high from xs (record { last = last; items = k; stop = at })
 gone_all labels links low high from xs k last at g le =
     let none : at ≡ None = none_left links at g.rest (omega (arith, g.count, ap (length {A = ℕ}) g.parts, length-append g.done g.rest)) g.leads in
     gone_out labels links low high from xs k last at g (ap (next_between labels low high) none)
@@ -136,7 +142,8 @@ rises_from labels low low' high high' [] le ge r = tt
 rises_from labels low low' high high' (x ∷ xs) le ge r =
     (omega (arith, r.0), omega (arith, r.1), rises_from labels (slice_index labels x + 1) (slice_index labels x + 1) high high' xs (omega arith) ge r.2)
 
-pub rises_append : (labels : List ℕ) (low mid high : ℕ) (xs ys : List ℕ) → low ≤ mid → mid ≤ high → Rises labels low mid xs → Rises labels mid high ys → Rises labels low high (xs ++ ys)
+pub rises_append : (labels : List ℕ) (low mid high : ℕ) (xs ys : List ℕ) → low ≤ mid → mid ≤ high → Rises labels low mid xs → Rises labels mid high ys
+    → Rises labels low high (xs ++ ys)
 rises_append labels low mid high [] ys le ge r s = rises_from labels mid low high high ys le (omega arith) s
 rises_append labels low mid high (x ∷ xs) ys le ge r s =
     (r.0, omega (arith, r.1), rises_append labels (slice_index labels x + 1) mid high xs ys (omega (arith, r.1)) ge r.2 s)
@@ -150,17 +157,20 @@ falls_rest labels high [] ys f = f
 falls_rest labels high (x ∷ xs) ys f = falls_to labels (slice_index labels x) high ys (omega (arith, f.0)) (falls_rest labels (slice_index labels x) xs ys f.1)
 
 -- the labels on both sides of a place in the list
-pub rises_parts : (labels : List ℕ) (low high z : ℕ) (behind zs : List ℕ) → Rises labels low high (put_before behind (z ∷ zs)) → Falls labels (slice_index labels z) behind × Rises labels (slice_index labels z) high (z ∷ zs)
+pub rises_parts : (labels : List ℕ) (low high z : ℕ) (behind zs : List ℕ) → Rises labels low high (put_before behind (z ∷ zs))
+    → Falls labels (slice_index labels z) behind × Rises labels (slice_index labels z) high (z ∷ zs)
 rises_parts labels low high z [] zs r = (tt, (omega arith, r.1, r.2))
 rises_parts labels low high z (p ∷ ps) zs r =
     let s = rises_parts labels low high p ps (z ∷ zs) r in
     ((omega (arith, s.1.2.0), s.0), (omega arith, s.1.2.1, s.1.2.2))
 
 -- both sides put together
-pub rises_join : (labels : List ℕ) (low high : ℕ) (behind rest : List ℕ) → low ≤ high → Falls labels low behind → Rises labels low high rest → Rises labels 0 high (put_before behind rest)
+pub rises_join : (labels : List ℕ) (low high : ℕ) (behind rest : List ℕ) → low ≤ high → Falls labels low behind → Rises labels low high rest
+    → Rises labels 0 high (put_before behind rest)
 rises_join labels low high [] rest le f r = rises_from labels low 0 high high rest (omega arith) (omega arith) r
 rises_join labels low high (p ∷ ps) rest le f r =
-    rises_join labels (slice_index labels p) high ps (p ∷ rest) (omega (arith, f.0)) f.1 (omega arith, omega (arith, f.0), rises_from labels low (slice_index labels p + 1) high high rest (omega (arith, f.0)) (omega arith) r)
+    rises_join labels (slice_index labels p) high ps (p ∷ rest) (omega (arith, f.0)) f.1
+    (omega arith, omega (arith, f.0), rises_from labels low (slice_index labels p + 1) high high rest (omega (arith, f.0)) (omega arith) r)
 
 pub put_before_length : (behind rest : List ℕ) → length (put_before behind rest) ≡ length behind + length rest
 put_before_length [] rest = omega arith
@@ -188,14 +198,16 @@ head_append [] ys x h = cc
 head_append (z ∷ zs) ys x h = h
 
 -- labels rise in a span that was widened to the front
-rises_behind : (labels : List ℕ) (from base high high' : ℕ) (taken rest xs : List ℕ) → base ≤ from → from ≤ high → Falls labels from (taken ++ rest) → AllBetween labels base high' taken → Rises labels from high xs → Rises labels base high (put_before taken xs)
+rises_behind : (labels : List ℕ) (from base high high' : ℕ) (taken rest xs : List ℕ) → base ≤ from → from ≤ high → Falls labels from (taken ++ rest)
+    → AllBetween labels base high' taken → Rises labels from high xs → Rises labels base high (put_before taken xs)
 rises_behind labels from base high high' [] rest xs le ge f b r = rises_from labels from base high high xs le (omega arith) r
 rises_behind labels from base high high' (t ∷ ts) rest xs le ge f b r =
     rises_behind labels (slice_index labels t) base high high' ts rest (t ∷ xs) b.0 (omega (arith, f.0)) f.1 b.2
     (omega arith, omega (arith, f.0), rises_from labels from (slice_index labels t + 1) high high xs (omega (arith, f.0)) (omega arith) r)
 
 -- what stands behind it has labels below
-falls_behind : (labels : List ℕ) (links : List (Option ℕ)) (from base high : ℕ) (stop : Option ℕ) (rest : List ℕ) → from ≤ high → Falls labels from rest → Leads links stop rest → next_between labels base high stop ≡ None → Falls labels base rest
+falls_behind : (labels : List ℕ) (links : List (Option ℕ)) (from base high : ℕ) (stop : Option ℕ) (rest : List ℕ) → from ≤ high → Falls labels from rest
+    → Leads links stop rest → next_between labels base high stop ≡ None → Falls labels base rest
 falls_behind labels links from base high stop [] le f l out = tt
 falls_behind labels links from base high stop (y ∷ ys) le f l out =
     let out' : next_between labels base high (Some y) ≡ None = subst (λ o. next_between labels base high o ≡ None) l.0 out in
@@ -208,15 +220,18 @@ falls_behind labels links from base high stop (y ∷ ys) le f l out =
     ]
 
 -- labels rise in what a span was widened by to the end
-rises_taken : (labels : List ℕ) (to base high most : ℕ) (taken rest : List ℕ) → Rises labels to most (taken ++ rest) → AllBetween labels base high taken → Rises labels to high taken
+rises_taken : (labels : List ℕ) (to base high most : ℕ) (taken rest : List ℕ) → Rises labels to most (taken ++ rest) → AllBetween labels base high taken
+    → Rises labels to high taken
 rises_taken labels to base high most [] rest r b = tt
 rises_taken labels to base high most (t ∷ ts) rest r b = (r.0, b.1, rises_taken labels (slice_index labels t + 1) base high most ts rest r.2 b.2)
 
 rises_rest : (labels : List ℕ) (to most : ℕ) (taken rest : List ℕ) → Rises labels to most (taken ++ rest) → Rises labels to most rest
 rises_rest labels to most [] rest r = r
-rises_rest labels to most (t ∷ ts) rest r = rises_from labels (slice_index labels t + 1) to most most rest (omega (arith, r.0)) (omega arith) (rises_rest labels (slice_index labels t + 1) most ts rest r.2)
+rises_rest labels to most (t ∷ ts) rest r = rises_from labels (slice_index labels t + 1) to most most rest (omega (arith, r.0)) (omega arith)
+    (rises_rest labels (slice_index labels t + 1) most ts rest r.2)
 
-rises_ahead : (labels : List ℕ) (links : List (Option ℕ)) (to base high most : ℕ) (stop : Option ℕ) (rest : List ℕ) → base ≤ to → Rises labels to most rest → Leads links stop rest → next_between labels base high stop ≡ None → Rises labels high most rest
+rises_ahead : (labels : List ℕ) (links : List (Option ℕ)) (to base high most : ℕ) (stop : Option ℕ) (rest : List ℕ) → base ≤ to → Rises labels to most rest
+    → Leads links stop rest → next_between labels base high stop ≡ None → Rises labels high most rest
 rises_ahead labels links to base high most stop [] le r l out = tt
 rises_ahead labels links to base high most stop (y ∷ ys) le r l out =
     let out' : next_between labels base high (Some y) ≡ None = subst (λ o. next_between labels base high o ≡ None) l.0 out in
@@ -256,7 +271,8 @@ module _ (labels : List ℕ) (nexts prevs : List (Option ℕ)) (order : List ℕ
       ∙ (ap (λ l. put_before l (span.items ++ span.ahead)) b.parts
       ∙ (ap (λ l. put_before (b.taken ++ b.rest) (span.items ++ l)) a.parts
       ∙ (put_before_parts b.taken b.rest (span.items ++ (a.taken ++ a.rest))
-      ∙ ap (λ l. put_before b.rest l) (put_before_append b.taken span.items (a.taken ++ a.rest) ∙ sym (append_assoc (put_before b.taken span.items) a.taken a.rest)))))
+      ∙ ap (λ l. put_before b.rest l) (put_before_append b.taken span.items (a.taken ++ a.rest)
+      ∙ sym (append_assoc (put_before b.taken span.items) a.taken a.rest)))))
 
   inside : Rises labels base high all
   inside =
@@ -268,7 +284,8 @@ module _ (labels : List ℕ) (nexts prevs : List (Option ℕ)) (order : List ℕ
   count =
       omega (arith, span.count, b.count, a.count, length-append (put_before b.taken span.items) a.taken, put_before_length b.taken span.items)
 
-  pub wider : IsSpan labels nexts prevs order base high (record { first = back.last; items = s.items + back.items + on.items; before = back.stop; after = on.stop })
+  pub wider :
+      IsSpan labels nexts prevs order base high (record { first = back.last; items = s.items + back.items + on.items; before = back.stop; after = on.stop })
   wider = record {
     behind = b.rest;
     items = all;
@@ -276,7 +293,8 @@ module _ (labels : List ℕ) (nexts prevs : List (Option ℕ)) (order : List ℕ
     parts = parts;
     falls = falls_behind labels prevs from base high back.stop b.rest (omega (arith, some)) (falls_rest labels from b.taken b.rest behind_falls) b.leads b.out;
     inside = inside;
-    rises = rises_ahead labels nexts to base high (2 ^ 62) on.stop a.rest (omega (arith, some)) (rises_rest labels to (2 ^ 62) a.taken a.rest ahead_rises) a.leads a.out;
+    rises = rises_ahead labels nexts to base high (2 ^ 62) on.stop a.rest (omega (arith, some))
+        (rises_rest labels to (2 ^ 62) a.taken a.rest ahead_rises) a.leads a.out;
     leads_back = b.leads;
     leads_on = a.leads;
     first = head_append (put_before b.taken span.items) a.taken back.last (first_of b.taken span.items s.first span.first ∙ ap (λ v. Some v) (sym b.last));
@@ -284,9 +302,11 @@ module _ (labels : List ℕ) (nexts prevs : List (Option ℕ)) (order : List ℕ
   }
 
 -- how many items there are in a span, and on both sides of it
-pub span_length : (labels : List ℕ) (nexts prevs : List (Option ℕ)) (order : List ℕ) (low high : ℕ) (s : Span) (span : IsSpan labels nexts prevs order low high s) → length order ≡ length span.behind + (length span.items + length span.ahead)
+pub span_length : (labels : List ℕ) (nexts prevs : List (Option ℕ)) (order : List ℕ) (low high : ℕ) (s : Span)
+    (span : IsSpan labels nexts prevs order low high s) → length order ≡ length span.behind + (length span.items + length span.ahead)
 span_length labels nexts prevs order low high s span =
-    ap (length {A = ℕ}) span.parts ∙ (put_before_length span.behind (span.items ++ span.ahead) ∙ ap (λ n. length span.behind + n) (length-append span.items span.ahead))
+    ap (length {A = ℕ}) span.parts ∙ (put_before_length span.behind (span.items ++ span.ahead)
+    ∙ ap (λ n. length span.behind + n) (length-append span.items span.ahead))
 
 module _ (labels : List ℕ) (nexts prevs : List (Option ℕ)) (order : List ℕ) (low high : ℕ) (s : Span)
     (k : Keeps labels nexts prevs order) (few : length nexts < 2 ^ 32) (span : IsSpan labels nexts prevs order low high s) where

@@ -1,5 +1,6 @@
 -- The least sparse window.
-use Rattle.std.proofs.Common.{◌≡◌, ◌≢◌, ℕ, ◌+◌, ◌*◌, ◌^◌, ◌<◌, ◌≤◌, ◌∙◌, inl, inr, true, false, List, [], ◌∷◌, ◌++◌, length, append_assoc, sym, subst, ap, refl, arith}
+use Rattle.std.proofs.Common.{◌≡◌, ◌≢◌, ℕ, ◌+◌, ◌*◌, ◌^◌, ◌<◌, ◌≤◌, ◌∙◌, inl, inr, true, false, List, [], ◌∷◌, ◌++◌, length, append_assoc, sym, subst, ap, refl}
+use Rattle.std.proofs.Common.{arith}
 use Rattle.std.specs.Prelude.{Option, None, ◌==◌, Bool, nat_le, slice_index, slice_index_or, unwrap_or}
 use Rattle.std.specs.List.{filter}
 use Rattle.std.proofs.lemmas.List.Elements.{filter-append}
@@ -25,7 +26,8 @@ module _ (labels : List ℕ) (low high : ℕ) where
   all_within : (from : ℕ) (xs : List ℕ) → low ≤ from → Rises labels from high xs → within xs ≡ xs
   all_within from [] le r = refl
   all_within from (x ∷ xs) le r =
-      rw (is_in_range low high (slice_index labels x) (omega (arith, r.0)) r.1) (ap (λ l. x ∷ l) (all_within (slice_index labels x + 1) xs (omega (arith, r.0)) r.2))
+      rw (is_in_range low high (slice_index labels x) (omega (arith, r.0)) r.1)
+      (ap (λ l. x ∷ l) (all_within (slice_index labels x + 1) xs (omega (arith, r.0)) r.2))
 
   none_above : (from most : ℕ) (xs : List ℕ) → high ≤ from → Rises labels from most xs → within xs ≡ []
   none_above from most [] le r = refl
@@ -62,7 +64,8 @@ place_in x behind (z ∷ zs) h =
     ]
 
 -- links from a place on
-leads_behind : (prevs : List (Option ℕ)) (behind rest : List ℕ) → LinkedBack prevs None (put_before behind rest) → Leads prevs (head_of behind) behind × LinkedBack prevs (head_of behind) rest
+leads_behind : (prevs : List (Option ℕ)) (behind rest : List ℕ) → LinkedBack prevs None (put_before behind rest)
+    → Leads prevs (head_of behind) behind × LinkedBack prevs (head_of behind) rest
 leads_behind prevs [] rest l = (refl, l)
 leads_behind prevs (p ∷ ps) rest l =
     let r = leads_behind prevs ps (p ∷ rest) l in
@@ -84,7 +87,9 @@ pub linked_from : (nexts : List (Option ℕ)) (behind rest : List ℕ) → Linke
 linked_from nexts behind rest l = linked_ahead nexts behind rest l
 
 -- an item alone is a span
-pub alone : (labels : List ℕ) (nexts prevs : List (Option ℕ)) (order : List ℕ) (x : ℕ) → Keeps labels nexts prevs order → x < length nexts → IsSpan labels nexts prevs order (slice_index labels x) (slice_index labels x + 1) (record { first = x; items = 1; before = slice_index_or prevs x None; after = slice_index_or nexts x None })
+pub alone : (labels : List ℕ) (nexts prevs : List (Option ℕ)) (order : List ℕ) (x : ℕ) → Keeps labels nexts prevs order → x < length nexts
+    → IsSpan labels nexts prevs order (slice_index labels x) (slice_index labels x + 1)
+    (record { first = x; items = 1; before = slice_index_or prevs x None; after = slice_index_or nexts x None })
 alone labels nexts prevs order x k lt =
     let place = place_in x [] order (k.whole x lt) in
     let r = rises_parts labels 0 (2 ^ 62) x place.behind place.ahead (subst (Rises labels 0 (2 ^ 62)) place.parts k.rises) in
@@ -111,11 +116,17 @@ pub record HasSought (labels : List ℕ) (nexts prevs : List (Option ℕ)) (orde
   pub span : IsSpan labels nexts prevs order (base_of last (slice_index labels x)) (base_of last (slice_index labels x) + 2 ^ last) s
   pub least : (j : ℕ) → 1 ≤ j → j < i → IsSparse j (length (members labels order x j)) → ⊥
 
-pub sought_none : (labels : List ℕ) (nexts prevs : List (Option ℕ)) (order : List ℕ) (x : ℕ) → Keeps labels nexts prevs order → x < length nexts → HasSought labels nexts prevs order x 1 (record { first = x; items = 1; before = slice_index_or prevs x None; after = slice_index_or nexts x None })
+pub sought_none : (labels : List ℕ) (nexts prevs : List (Option ℕ)) (order : List ℕ) (x : ℕ) → Keeps labels nexts prevs order → x < length nexts
+    → HasSought labels nexts prevs order x 1 (record { first = x; items = 1; before = slice_index_or prevs x None; after = slice_index_or nexts x None })
 sought_none labels nexts prevs order x k lt = record {
   last = 0;
   next = refl;
-  span = subst (λ b. IsSpan labels nexts prevs order b (b + 1) (record { first = x; items = 1; before = slice_index_or prevs x None; after = slice_index_or nexts x None })) (sym (base_zero (slice_index labels x))) (alone labels nexts prevs order x k lt);
+  span = subst (λ b. IsSpan labels nexts prevs order b (b + 1) (record {
+    first = x;
+    items = 1;
+    before = slice_index_or prevs x None;
+    after = slice_index_or nexts x None;
+  })) (sym (base_zero (slice_index labels x))) (alone labels nexts prevs order x k lt);
   least = λ j some lt s. absurd (omega arith);
 }
 
@@ -141,23 +152,27 @@ module _ (labels : List ℕ) (nexts prevs : List (Option ℕ)) (order : List ℕ
   pub members_count : (s : Span) → IsSpan labels nexts prevs order base (base + 2 ^ i) s → length (members labels order x i) ≡ s.items
   members_count s span = ap (length {A = ℕ}) (members_are s span) ∙ sym span.count
 
-  pub sought_more : (s s' : Span) → HasSought labels nexts prevs order x i s → IsSpan labels nexts prevs order base (base + 2 ^ i) s' → (IsSparse i s'.items → ⊥) → HasSought labels nexts prevs order x (i + 1) s'
+  pub sought_more : (s s' : Span) → HasSought labels nexts prevs order x i s → IsSpan labels nexts prevs order base (base + 2 ^ i) s'
+      → (IsSparse i s'.items → ⊥) → HasSought labels nexts prevs order x (i + 1) s'
   sought_more s s' h span not_sparse = record {
     last = i;
     next = refl;
     span = span;
     least = λ j some lt sparse. elim (tested (j == i)) [
-      | inl e ↦ (let same = eq_of j i e in not_sparse (subst (λ n. IsSparse i n) (members_count s' span) (subst (λ n. IsSparse n (length (members labels order x n))) same sparse)))
+      | inl e ↦ (let same = eq_of j i e in not_sparse (subst (λ n. IsSparse i n) (members_count s' span)
+          (subst (λ n. IsSparse n (length (members labels order x n))) same sparse)))
       | inr e ↦ (let ne : j ≢ i = apart j i e in h.least j some (omega (arith, lt, ne)) sparse)
     ];
   }
 
-  pub least_sparse : (s s' : Span) → 1 ≤ i → i ≤ 62 → HasSought labels nexts prevs order x i s → IsSpan labels nexts prevs order base (base + 2 ^ i) s' → IsSparse i s'.items → IsLeastSparse labels order x i
+  pub least_sparse : (s s' : Span) → 1 ≤ i → i ≤ 62 → HasSought labels nexts prevs order x i s → IsSpan labels nexts prevs order base (base + 2 ^ i) s'
+      → IsSparse i s'.items → IsLeastSparse labels order x i
   least_sparse s s' some most h span sparse =
       record { some = some; most = most; sparse = subst (λ n. IsSparse i n) (sym (members_count s' span)) sparse; least = h.least }
 
   -- the window that was found
-  pub found_is : (s : Span) (w : Window) → IsLeastSparse labels order x i → IsSpan labels nexts prevs order base (base + 2 ^ i) s → w ≡ record { first = record { 0 = s.first }; items = s.items; base = base; gap = gap_of i s.items } → IsFound labels nexts prevs order x w
+  pub found_is : (s : Span) (w : Window) → IsLeastSparse labels order x i → IsSpan labels nexts prevs order base (base + 2 ^ i) s
+      → w ≡ record { first = record { 0 = s.first }; items = s.items; base = base; gap = gap_of i s.items } → IsFound labels nexts prevs order x w
   found_is s w least span is = record { size = i; least = least; found = s; span = span; is = is }
 
 -- what stands behind, as a list in order
@@ -174,7 +189,8 @@ module _ (labels : List ℕ) (nexts prevs : List (Option ℕ)) (order : List ℕ
   found_is_window =
       let base = base_of f.size (slice_index labels x) in
       let count = members_count labels nexts prevs order x f.size f.found f.span in
-      let first : unwrap_or (head_of (members labels order x f.size)) 0 ≡ f.found.first = ap (λ l. unwrap_or (head_of l) 0) found_items ∙ ap (λ o. unwrap_or o 0) f.span.first in
+      let first : unwrap_or (head_of (members labels order x f.size)) 0 ≡ f.found.first = ap (λ l. unwrap_or (head_of l) 0) found_items ∙ ap (λ o.
+      unwrap_or o 0) f.span.first in
       let made : ℕ → ℕ → Window = λ a n. record { first = record { 0 = a }; items = n; base = base; gap = gap_of f.size n } in
       f.is ∙ sym (ap (λ a. made a (length (members labels order x f.size))) first ∙ ap (λ n. made f.found.first n) count)
 
@@ -187,9 +203,16 @@ module _ (labels : List ℕ) (nexts prevs : List (Option ℕ)) (order : List ℕ
   found_window = record { size = f.size; least = f.least; is = found_is_window; segment = found_segment }
 
 -- there is a least sparse window: the widest is sparse
-pub sought_all : (labels : List ℕ) (nexts prevs : List (Option ℕ)) (order : List ℕ) (x : ℕ) (s : Span) → length order < 2 ^ 32 → HasSought labels nexts prevs order x 63 s → ⊥
+pub sought_all : (labels : List ℕ) (nexts prevs : List (Option ℕ)) (order : List ℕ) (x : ℕ) (s : Span) → length order < 2 ^ 32
+    → HasSought labels nexts prevs order x 63 s → ⊥
 sought_all labels nexts prevs order x s few h =
-    let few' : length (members labels order x 62) ≤ length order = omega (arith, length-filter (λ y. is_between (base_of 62 (slice_index labels x)) (base_of 62 (slice_index labels x) + 2 ^ 62) (slice_index labels y)) order, count_by-le-length (λ y. is_between (base_of 62 (slice_index labels x)) (base_of 62 (slice_index labels x) + 2 ^ 62) (slice_index labels y)) order) in
+    let few' : length (members labels order x 62) ≤ length order = omega (
+      arith,
+      length-filter
+          (λ y. is_between (base_of 62 (slice_index labels x)) (base_of 62 (slice_index labels x) + 2 ^ 62) (slice_index labels y)) order,
+      count_by-le-length
+          (λ y. is_between (base_of 62 (slice_index labels x)) (base_of 62 (slice_index labels x) + 2 ^ 62) (slice_index labels y)) order,
+    ) in
     h.least 62 (omega arith) (omega arith) (widest (length (members labels order x 62)) (omega (arith, few', few)))
 
 -- what the test says
@@ -200,5 +223,6 @@ pub not_sparse : (i n : ℕ) (t : Bool) → t ≡ nat_le (n * 2 ^ i) (3 ^ i) →
 not_sparse i n t is e s = let f : nat_le (n * 2 ^ i) (3 ^ i) ≡ false = sym is ∙ e in grind (arith, nat_tests)
 
 -- the labels of a window are below 2^62
-pub fits : (labels : List ℕ) (nexts prevs : List (Option ℕ)) (order : List ℕ) (x i : ℕ) → Keeps labels nexts prevs order → x < length nexts → i ≤ 62 → base_of i (slice_index labels x) + 2 ^ i ≤ 2 ^ 62
+pub fits : (labels : List ℕ) (nexts prevs : List (Option ℕ)) (order : List ℕ) (x i : ℕ) → Keeps labels nexts prevs order → x < length nexts → i ≤ 62
+    → base_of i (slice_index labels x) + 2 ^ i ≤ 2 ^ 62
 fits labels nexts prevs order x i k lt most = end_le i (slice_index labels x) most (later_below labels order 0 (2 ^ 62) x k.rises (k.whole x lt))

@@ -1,5 +1,6 @@
 -- Labels that are spread evenly over a window.
-use Rattle.std.proofs.Common.{◌≡◌, ◌≢◌, ℕ, ◌+◌, ◌*◌, ◌^◌, ◌<◌, ◌≤◌, ◌∙◌, ◌⊎◌, inl, inr, true, false, List, [], ◌∷◌, ◌++◌, length, set, sym, subst, ap, refl, arith, get_or-set_same, get_or-set_other}
+use Rattle.std.proofs.Common.{◌≡◌, ◌≢◌, ℕ, ◌+◌, ◌*◌, ◌^◌, ◌<◌, ◌≤◌, ◌∙◌, ◌⊎◌, inl, inr, true, false, List, [], ◌∷◌, ◌++◌, length, set, sym, subst, ap, refl}
+use Rattle.std.proofs.Common.{arith, get_or-set_same, get_or-set_other}
 use Rattle.std.specs.Prelude.{Option, Some, None, Bool, ◌==◌, slice_index, slice_index_or}
 use Rattle.std.specs.List.{filter}
 use Rattle.std.proofs.Math.ListN.{length-set}
@@ -16,7 +17,8 @@ use Rattle.order_list.proofs.Spans.{is_in_range, below_append, put_before_below,
 use Rattle.order_list.proofs.Sparse.{linked_from, leads_linked, members_are, found_is_window, found_segment, fits}
 
 -- the labels as far as they were set
-pub record IsSpreading (old : List ℕ) (nexts : List (Option ℕ)) (w : Window) (items rest : List ℕ) (labels : List ℕ) (k label : ℕ) (at : Option ℕ) : Type 0 where
+pub record IsSpreading (old : List ℕ) (nexts : List (Option ℕ)) (w : Window) (items rest : List ℕ) (labels : List ℕ) (k label : ℕ)
+    (at : Option ℕ) : Type 0 where
   pub left : List ℕ
   pub leads : Leads nexts at (left ++ rest)
   pub count : w.items ≡ k + length left
@@ -24,8 +26,16 @@ pub record IsSpreading (old : List ℕ) (nexts : List (Option ℕ)) (w : Window)
   pub label_is : label ≡ w.base + k * w.gap
   pub same : set_evenly labels label w.gap left ≡ set_evenly old w.base w.gap items
 
-pub spread_none : (old : List ℕ) (nexts : List (Option ℕ)) (w : Window) (items rest : List ℕ) → IsRoute old nexts w items rest → IsSpreading old nexts w items rest old 0 w.base (Some w.first.0)
-spread_none old nexts w items rest r = record { left = items; leads = r.leads; count = omega (arith, r.count); below = r.below; label_is = omega arith; same = refl }
+pub spread_none : (old : List ℕ) (nexts : List (Option ℕ)) (w : Window) (items rest : List ℕ) → IsRoute old nexts w items rest
+    → IsSpreading old nexts w items rest old 0 w.base (Some w.first.0)
+spread_none old nexts w items rest r = record {
+  left = items;
+  leads = r.leads;
+  count = omega (arith, r.count);
+  below = r.below;
+  label_is = omega arith;
+  same = refl;
+}
 
 -- the item whose turn it is
 pub record Turn (old : List ℕ) (nexts : List (Option ℕ)) (w : Window) (items rest : List ℕ) (labels : List ℕ) (k label x : ℕ) : Type 0 where
@@ -33,10 +43,12 @@ pub record Turn (old : List ℕ) (nexts : List (Option ℕ)) (w : Window) (items
   pub fits : label + w.gap ≤ 2 ^ 62
   pub after : IsSpreading old nexts w items rest (set labels x label) (k + 1) (label + w.gap) (slice_index_or nexts x None)
 
-pub turn : (old : List ℕ) (nexts : List (Option ℕ)) (w : Window) (items rest : List ℕ) (labels : List ℕ) (k label x : ℕ) → IsRoute old nexts w items rest → k < w.items → (s : IsSpreading old nexts w items rest labels k label (Some x)) → Turn old nexts w items rest labels k label x
+pub turn : (old : List ℕ) (nexts : List (Option ℕ)) (w : Window) (items rest : List ℕ) (labels : List ℕ) (k label x : ℕ) → IsRoute old nexts w items rest
+    → k < w.items → (s : IsSpreading old nexts w items rest labels k label (Some x)) → Turn old nexts w items rest labels k label x
 turn old nexts w items rest labels k label x r lt s = at_left s.left s.leads s.count s.below s.same
   where
-    at_left : (left : List ℕ) → Leads nexts (Some x) (left ++ rest) → w.items ≡ k + length left → AllBelow (length nexts) left → set_evenly labels label w.gap left ≡ set_evenly old w.base w.gap items → Turn old nexts w items rest labels k label x
+    at_left : (left : List ℕ) → Leads nexts (Some x) (left ++ rest) → w.items ≡ k + length left → AllBelow (length nexts) left
+        → set_evenly labels label w.gap left ≡ set_evenly old w.base w.gap items → Turn old nexts w items rest labels k label x
     at_left [] l c b same = absurd (omega arith)
     at_left (y ∷ ys) l c b same =
         let x_is : y ≡ x = cc (l.0) in
@@ -48,7 +60,8 @@ turn old nexts w items rest labels k label x r lt s = at_left s.left s.leads s.c
         })
 
 -- there is an item as long as not all have their labels
-pub no_end : (old : List ℕ) (nexts : List (Option ℕ)) (w : Window) (items rest : List ℕ) (labels : List ℕ) (k label : ℕ) → k < w.items → IsSpreading old nexts w items rest labels k label None → ⊥
+pub no_end : (old : List ℕ) (nexts : List (Option ℕ)) (w : Window) (items rest : List ℕ) (labels : List ℕ) (k label : ℕ) → k < w.items
+    → IsSpreading old nexts w items rest labels k label None → ⊥
 no_end old nexts w items rest labels k label lt s = at_left s.left s.leads s.count
   where
     at_left : (left : List ℕ) → Leads nexts None (left ++ rest) → w.items ≡ k + length left → ⊥
@@ -56,10 +69,12 @@ no_end old nexts w items rest labels k label lt s = at_left s.left s.leads s.cou
     at_left (y ∷ ys) l c = let no : None ≡ Some y = l.0 in cc
 
 -- all have their labels
-pub spread_all : (old : List ℕ) (nexts : List (Option ℕ)) (w : Window) (items rest : List ℕ) (labels : List ℕ) (k label : ℕ) (at : Option ℕ) → w.items ≤ k → IsSpreading old nexts w items rest labels k label at → labels ≡ set_evenly old w.base w.gap items
+pub spread_all : (old : List ℕ) (nexts : List (Option ℕ)) (w : Window) (items rest : List ℕ) (labels : List ℕ) (k label : ℕ) (at : Option ℕ) → w.items ≤ k
+    → IsSpreading old nexts w items rest labels k label at → labels ≡ set_evenly old w.base w.gap items
 spread_all old nexts w items rest labels k label at le s = at_left s.left s.count s.same
   where
-    at_left : (left : List ℕ) → w.items ≡ k + length left → set_evenly labels label w.gap left ≡ set_evenly old w.base w.gap items → labels ≡ set_evenly old w.base w.gap items
+    at_left : (left : List ℕ) → w.items ≡ k + length left → set_evenly labels label w.gap left ≡ set_evenly old w.base w.gap items
+        → labels ≡ set_evenly old w.base w.gap items
     at_left [] c same = same
     at_left (y ∷ ys) c same = absurd (omega arith)
 
@@ -84,34 +99,55 @@ spaced_from : (labels : List ℕ) (base gap k : ℕ) (xs : List ℕ) → IsSpace
 spaced_from labels base gap k [] s = tt
 spaced_from labels base gap k (x ∷ xs) s = (omega (arith, s.0), spaced_from labels base gap (k + 1) xs s.1)
 
-pub even_spaced : (old labels : List ℕ) (n low high base gap : ℕ) (xs : List ℕ) → Rises old low high xs → AllBelow n xs → length labels ≡ n → IsSpaced (set_evenly labels base gap xs) base gap 0 xs
+pub even_spaced : (old labels : List ℕ) (n low high base gap : ℕ) (xs : List ℕ) → Rises old low high xs → AllBelow n xs → length labels ≡ n
+    → IsSpaced (set_evenly labels base gap xs) base gap 0 xs
 even_spaced old labels n low high base gap [] r b len = tt
 even_spaced old labels n low high base gap (x ∷ xs) r b len =
     let within : x < length labels = omega (arith, b.0, len) in
-    let here : slice_index (set_evenly (set labels x base) (base + gap) gap xs) x ≡ base = even_other (set labels x base) (base + gap) gap x xs (not_later old xs low high x r) ∙ rw get_or-set_same refl in
-    let len' : length (set labels x base) ≡ n = simp length-set len in
-    (omega (arith, here), spaced_from (set_evenly (set labels x base) (base + gap) gap xs) base gap 0 xs (even_spaced old (set labels x base) n (slice_index old x + 1) high (base + gap) gap xs r.2 b.1 len'))
+    let here : slice_index (set_evenly (set labels x base) (base + gap) gap xs) x ≡ base = even_other (set labels x base) (base + gap) gap x xs (not_later old
+    xs low high x r) ∙ rw get_or-set_same refl in
+    let len' : length (set labels x base) ≡ n = simp length-set len in (
+      omega (arith, here),
+      spaced_from (set_evenly (set labels x base) (base + gap) gap xs) base gap 0 xs
+          (even_spaced old (set labels x base) n (slice_index old x + 1) high (base + gap) gap xs r.2 b.1 len'),
+    )
 
 -- spread labels rise
-pub spaced_rises : (labels : List ℕ) (base gap k low high : ℕ) (xs : List ℕ) → 1 ≤ gap → low ≤ base + k * gap → base + (k + length xs) * gap ≤ high → IsSpaced labels base gap k xs → Rises labels low high xs
+pub spaced_rises : (labels : List ℕ) (base gap k low high : ℕ) (xs : List ℕ) → 1 ≤ gap → low ≤ base + k * gap → base + (k + length xs) * gap ≤ high
+    → IsSpaced labels base gap k xs → Rises labels low high xs
 spaced_rises labels base gap k low high [] some le fits s = tt
-spaced_rises labels base gap k low high (x ∷ xs) some le fits s = (omega (arith, s.0), omega (arith, s.0, fits_one (length xs) gap), spaced_rises labels base gap (k + 1) (slice_index labels x + 1) high xs some (omega (arith, s.0)) (omega (arith, fits)) s.1)
+spaced_rises labels base gap k low high (x ∷ xs) some le fits
+    s = (
+      omega (arith, s.0),
+      omega (arith, s.0, fits_one (length xs) gap),
+      spaced_rises labels base gap (k + 1) (slice_index labels x + 1) high xs some
+          (omega (arith, s.0)) (omega (arith, fits)) s.1,
+    )
   where
     fits_one : (n gap : ℕ) → gap ≤ (1 + n) * gap
     fits_one n gap = omega arith
 
 -- labels that stay are in the same order
-falls_same : (labels labels' : List ℕ) (high : ℕ) (xs : List ℕ) → ((y : ℕ) → is_in y xs ≡ true → slice_index labels' y ≡ slice_index labels y) → Falls labels high xs → Falls labels' high xs
+falls_same : (labels labels' : List ℕ) (high : ℕ) (xs : List ℕ) → ((y : ℕ) → is_in y xs ≡ true → slice_index labels' y ≡ slice_index labels y)
+    → Falls labels high xs → Falls labels' high xs
 falls_same labels labels' high [] same f = tt
 falls_same labels labels' high (x ∷ xs) same f =
-    let here = same x (head_in x xs) in
-    (omega (arith, f.0, here), subst (λ h. Falls labels' h xs) (sym here) (falls_same labels labels' (slice_index labels x) xs (λ y h. same y (in_rest y x xs h)) f.1))
+    let here = same x (head_in x xs) in (
+      omega (arith, f.0, here),
+      subst (λ h. Falls labels' h xs) (sym here)
+          (falls_same labels labels' (slice_index labels x) xs (λ y h. same y (in_rest y x xs h)) f.1),
+    )
 
-rises_same : (labels labels' : List ℕ) (low high : ℕ) (xs : List ℕ) → ((y : ℕ) → is_in y xs ≡ true → slice_index labels' y ≡ slice_index labels y) → Rises labels low high xs → Rises labels' low high xs
+rises_same : (labels labels' : List ℕ) (low high : ℕ) (xs : List ℕ) → ((y : ℕ) → is_in y xs ≡ true → slice_index labels' y ≡ slice_index labels y)
+    → Rises labels low high xs → Rises labels' low high xs
 rises_same labels labels' low high [] same r = tt
 rises_same labels labels' low high (x ∷ xs) same r =
-    let here = same x (head_in x xs) in
-    (omega (arith, r.0, here), omega (arith, r.1, here), subst (λ h. Rises labels' (h + 1) high xs) (sym here) (rises_same labels labels' (slice_index labels x + 1) high xs (λ y h. same y (in_rest y x xs h)) r.2))
+    let here = same x (head_in x xs) in (
+      omega (arith, r.0, here),
+      omega (arith, r.1, here),
+      subst (λ h. Rises labels' (h + 1) high xs) (sym here)
+          (rises_same labels labels' (slice_index labels x + 1) high xs (λ y h. same y (in_rest y x xs h)) r.2),
+    )
 
 falls_below : (labels : List ℕ) (high y : ℕ) (xs : List ℕ) → Falls labels high xs → is_in y xs ≡ true → slice_index labels y < high
 falls_below labels high y [] f h = cc
@@ -122,7 +158,8 @@ falls_below labels high y (x ∷ xs) f h =
     ]
 
 -- an item with a label outside of a range is none of the items with labels in it
-out_of : (labels : List ℕ) (low high y : ℕ) (xs : List ℕ) → Rises labels low high xs → (slice_index labels y < low) ⊎ (high ≤ slice_index labels y) → is_in y xs ≡ false
+out_of : (labels : List ℕ) (low high y : ℕ) (xs : List ℕ) → Rises labels low high xs → (slice_index labels y < low) ⊎ (high ≤ slice_index labels y)
+    → is_in y xs ≡ false
 out_of labels low high y xs r out =
     elim (tested (is_in y xs)) [
       | inl e ↦ elim out [
@@ -143,7 +180,9 @@ next_behind x (p ∷ ps) rest out =
     next_after p rest ne = elim (tested (p == x)) [ inl e ↦ absurd (ne (eq_of p x e)) | inr e ↦ rw e refl ]
 
 -- between an item of a window and the next item there is a gap
-pub spaced_gap : (labels : List ℕ) (base gap k high x : ℕ) (xs ahead : List ℕ) → base + (k + length xs) * gap ≤ high → high ≤ 2 ^ 62 → IsSpaced labels base gap k xs → Rises labels high (2 ^ 62) ahead → is_in x xs ≡ true → slice_index labels x + gap ≤ high_by labels (next_of x (xs ++ ahead))
+pub spaced_gap : (labels : List ℕ) (base gap k high x : ℕ) (xs ahead : List ℕ) → base + (k + length xs) * gap ≤ high → high ≤ 2 ^ 62
+    → IsSpaced labels base gap k xs → Rises labels high (2 ^ 62) ahead → is_in x xs ≡ true
+    → slice_index labels x + gap ≤ high_by labels (next_of x (xs ++ ahead))
 spaced_gap labels base gap k high x [] ahead fits le s r h = cc
 spaced_gap labels base gap k high x (z ∷ []) [] fits le s r h =
     elim (tested (z == x)) [
@@ -178,7 +217,8 @@ in_filter p x (z ∷ zs) t h =
 in_members : (labels order : List ℕ) (x i : ℕ) → is_in x order ≡ true → is_in x (members labels order x i) ≡ true
 in_members labels order x i h =
     let label = slice_index labels x in
-    in_filter (λ y. is_between (base_of i label) (base_of i label + 2 ^ i) (slice_index labels y)) x order (is_in_range (base_of i label) (base_of i label + 2 ^ i) label (base_le i label) (label_below i label)) h
+    in_filter (λ y. is_between (base_of i label) (base_of i label + 2 ^ i) (slice_index labels y)) x order
+    (is_in_range (base_of i label) (base_of i label + 2 ^ i) label (base_le i label) (label_below i label)) h
 
 length_some : (xs : List ℕ) (x : ℕ) → head_of xs ≡ Some x → 1 ≤ length xs
 length_some [] x h = cc
@@ -285,8 +325,14 @@ module _ (labels : List ℕ) (nexts prevs : List (Option ℕ)) (order : List ℕ
 
   pub spread' : IsSpread labels order x w labels'
   spread' =
-      let window : IsWindowOf labels order x w = record { size = i; least = f.least; is = found_is_window labels nexts prevs order x w f; segment = found_segment labels nexts prevs order x w f } in
-      let spaced_in : IsSpaced labels' base gap 0 (members labels order x i) = subst (λ (xs : List ℕ). IsSpaced labels' base gap 0 xs) (sym same_items) spaced in
+      let window : IsWindowOf labels order x w = record {
+        size = i;
+        least = f.least;
+        is = found_is_window labels nexts prevs order x w f;
+        segment = found_segment labels nexts prevs order x w f;
+      } in
+      let spaced_in : IsSpaced labels' base gap 0 (members labels order x i) = subst (λ (xs : List ℕ). IsSpaced labels' base gap 0
+      xs) (sym same_items) spaced in
       record {
         window = window;
         counted = even_length labels base gap items;
@@ -297,6 +343,12 @@ module _ (labels : List ℕ) (nexts prevs : List (Option ℕ)) (order : List ℕ
   pub between' : slice_index labels' x + 2 ≤ high_by labels' (next_of x order)
   between' =
       let there : is_in x items ≡ true = subst (λ xs. is_in x xs ≡ true) same_items (in_members labels order x i (k.whole x x_in)) in
-      let not_behind : (y : ℕ) → is_in y f.span.behind ≡ true → y ≢ x = λ y h s. absurd (omega (arith, falls_below labels base y f.span.behind f.span.falls h, base_le i (slice_index labels x), ap (slice_index labels) s)) in
+      let not_behind : (y : ℕ) → is_in y f.span.behind ≡ true → y ≢ x = λ y h s. absurd (omega (
+        arith,
+        falls_below labels base y f.span.behind f.span.falls h,
+        base_le i (slice_index labels x),
+        ap (slice_index labels) s,
+      )) in
       let next : next_of x order ≡ next_of x (items ++ ahead) = ap (next_of x) f.span.parts ∙ next_behind x f.span.behind (items ++ ahead) not_behind in
-      subst (λ o. slice_index labels' x + 2 ≤ high_by labels' o) (sym next) (omega (arith, two, spaced_gap labels' base gap 0 high x items ahead all_fit few spaced rises_ahead' there))
+      subst (λ o. slice_index labels' x + 2 ≤ high_by labels' o) (sym next)
+      (omega (arith, two, spaced_gap labels' base gap 0 high x items ahead all_fit few spaced rises_ahead' there))

@@ -32,7 +32,8 @@ version_taken snapshot n even =
     elim (tested (n == snapshot.version)) [ inl e ↦ rw e (sym (eq_of n snapshot.version e)) | inr e ↦ rw (e, test) refl ]
 
 -- what is told of a longer log is told of the items of one that begins it
-told_by_start : (label : ℕ → ℕ) (f : Insert → ℕ) (log start : List Insert) (x y : ℕ) → StartsWith log start → AreEarlier 1 (map f start) → x < count_of start → y < count_of start → StrictlyRise label (order_of (map f log)) → nat_lt (label x) (label y) ≡ stands_before x y (order_of (map f start))
+told_by_start : (label : ℕ → ℕ) (f : Insert → ℕ) (log start : List Insert) (x y : ℕ) → StartsWith log start → AreEarlier 1 (map f start) → x < count_of start
+    → y < count_of start → StrictlyRise label (order_of (map f log)) → nat_lt (label x) (label y) ≡ stands_before x y (order_of (map f start))
 told_by_start label f log start x y s e lx ly r =
     let t = rising_tell label (map f log) r in
     let more = map f s.0 in
@@ -42,9 +43,12 @@ told_by_start label f log start x y s e lx ly r =
 
 -- the view after a version and four labels were loaded
 abbrev pub asked : View → ℕ → ℕ → ℕ → ℕ → ℕ → ℕ → ℕ → View
-asked v n x y a b c d = after_label (after_label (after_label (after_label (after_version v n) (english_word x) a) (english_word y) b) (hebrew_word x) c) (hebrew_word y) d
+asked v n x y a b c d = after_label (after_label (after_label (after_label (after_version v n) (english_word x) a) (english_word y) b)
+    (hebrew_word x) c) (hebrew_word y) d
 
-pub sides_are : (v : View) (n m x y a b c d : ℕ) → n % 2 ≡ 0 → n ≡ m → (m ≡ (asked v n x y a b c d).snapshot.version → IsMoment (asked v n x y a b c d)) → IsLog v.log → x < count_of v.log → y < count_of v.log → AreSides (record { english = nat_lt a b; hebrew = nat_lt c d }) x y (english_of v.log) (hebrew_of v.log)
+pub sides_are : (v : View) (n m x y a b c d : ℕ) → n % 2 ≡ 0 → n ≡ m → (m ≡ (asked v n x y a b c d).snapshot.version → IsMoment (asked v n x y a b c d))
+    → IsLog v.log → x < count_of v.log → y < count_of v.log
+    → AreSides (record { english = nat_lt a b; hebrew = nat_lt c d }) x y (english_of v.log) (hebrew_of v.log)
 sides_are v n m x y a b c d even same moment log lx ly =
     let at = moment (sym same ∙ sym (version_taken v.snapshot n even)) in
     let words = at.words in
@@ -57,19 +61,26 @@ sides_are v n m x y a b c d even same moment log lx ly =
     }
 
 -- and they stay
-pub sides_stay : (sides : Sides) (x y : ℕ) (log : List Insert) → x < count_of log → y < count_of log → AreSides sides x y (english_of log) (hebrew_of log) → AreSidesFrom sides x y log
-sides_stay sides x y log lx ly a = λ longer starts. let same = orders_stay longer log starts x y lx ly in record { first = a.first ∙ sym same.0; second = a.second ∙ sym same.1 }
+pub sides_stay : (sides : Sides) (x y : ℕ) (log : List Insert) → x < count_of log → y < count_of log → AreSides sides x y (english_of log) (hebrew_of log)
+    → AreSidesFrom sides x y log
+sides_stay sides x y log lx ly a = λ longer starts. let same = orders_stay longer log starts x y lx ly in record {
+  first = a.first ∙ sym same.0;
+  second = a.second ∙ sym same.1;
+}
 
 -- the same in the steps of a question: a version, four labels, and the version again
 pub asked_sides : (v : View) (log : List Insert) (n m x y a b p q : ℕ) (s1 s2 s3 s4 s5 : Me (Unit {0}) View)
-    → s1 ≡ (after_version v n, []) → s2 ≡ (after_label s1.0 (english_word x) a, []) → s3 ≡ (after_label s2.0 (english_word y) b, []) → s4 ≡ (after_label s3.0 (hebrew_word x) p, []) → s5 ≡ (after_label s4.0 (hebrew_word y) q, [])
+    → s1 ≡ (after_version v n, []) → s2 ≡ (after_label s1.0 (english_word x) a, []) → s3 ≡ (after_label s2.0 (english_word y) b, [])
+    → s4 ≡ (after_label s3.0 (hebrew_word x) p, []) → s5 ≡ (after_label s4.0 (hebrew_word y) q, [])
     → n % 2 ≡ 0 → n ≡ m → (m ≡ s5.0.snapshot.version → IsMoment s5.0) → v.log ≡ log → IsLog v.log → x < count_of log → y < count_of log
     → AreSidesFrom (record { english = nat_lt a b; hebrew = nat_lt p q }) x y log
 asked_sides v log n m x y a b p q s1 s2 s3 s4 s5 e1 e2 e3 e4 e5 even same moment log_is earlier lx ly =
     let after : ℕ → ℕ → Me (Unit {0}) View → Me (Unit {0}) View = λ w k e. (after_label e.0 w k, []) in
-    let all : s5 ≡ (asked v n x y a b p q, []) = e5 ∙ ap (after (hebrew_word y) q) (e4 ∙ ap (after (hebrew_word x) p) (e3 ∙ ap (after (english_word y) b) (e2 ∙ ap (after (english_word x) a) e1))) in
+    let all : s5 ≡ (asked v n x y a b p q, []) = e5 ∙ ap (after (hebrew_word y) q) (e4
+    ∙ ap (after (hebrew_word x) p) (e3 ∙ ap (after (english_word y) b) (e2 ∙ ap (after (english_word x) a) e1))) in
     let moment' = subst (λ (e : Me (Unit {0}) View). m ≡ e.0.snapshot.version → IsMoment e.0) all moment in
     let lx' = subst (λ (l : List Insert). x < count_of l) (sym log_is) lx in
     let ly' = subst (λ (l : List Insert). y < count_of l) (sym log_is) ly in
     let sides : Sides = record { english = nat_lt a b; hebrew = nat_lt p q } in
-    subst (λ (l : List Insert). AreSidesFrom sides x y l) log_is (sides_stay sides x y v.log lx' ly' (sides_are v n m x y a b p q even same moment' earlier lx' ly'))
+    subst (λ (l : List Insert). AreSidesFrom sides x y l) log_is
+    (sides_stay sides x y v.log lx' ly' (sides_are v n m x y a b p q even same moment' earlier lx' ly'))

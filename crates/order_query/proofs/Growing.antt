@@ -1,5 +1,6 @@
 -- The lists that a log makes.
-use Rattle.std.proofs.Common.{◌≡◌, ◌≢◌, ℕ, zero, suc, ◌+◌, ◌<◌, true, false, List, [], ◌∷◌, ◌++◌, ◌⊎◌, inl, inr, map, length, sym, ◌∙◌, subst, refl, ap, arith, add-zero}
+use Rattle.std.proofs.Common.{◌≡◌, ◌≢◌, ℕ, zero, suc, ◌+◌, ◌<◌, true, false, List, [], ◌∷◌, ◌++◌, ◌⊎◌, inl, inr, map, length, sym, ◌∙◌, subst, refl, ap, arith}
+use Rattle.std.proofs.Common.{add-zero}
 use Rattle.std.specs.Prelude.{◌==◌, nat_lt}
 use Rattle.std.proofs.lemmas.Bool.Decides.{nat_tests}
 use Rattle.std.proofs.lemmas.List.{map-append, length-map}
@@ -53,7 +54,8 @@ item_in a item (z ∷ zs) h =
 -- more inserts keep the items and their order
 pub in_grown : (item : ℕ) (order afters : List ℕ) (y : ℕ) → y < item → is_in y (grown item order afters) ≡ is_in y order
 in_grown item order [] y lt = refl
-in_grown item order (a ∷ as') y lt = in_grown (item + 1) (put_after a (item ∷ []) order) as' y (omega (arith, lt)) ∙ in_put a item y order (λ e. omega (arith, e, lt))
+in_grown item order (a ∷ as') y lt = in_grown (item + 1) (put_after a (item ∷ []) order) as' y (omega (arith, lt))
+    ∙ in_put a item y order (λ e. omega (arith, e, lt))
 
 pub before_grown : (item : ℕ) (order afters : List ℕ) (x y : ℕ) → x < item → y < item → stands_before x y (grown item order afters) ≡ stands_before x y order
 before_grown item order [] x y lx ly = refl
@@ -72,7 +74,8 @@ grown_append item order (a ∷ as') bs =
 pub below_or : (y item : ℕ) → y < item + 1 → (y < item) ⊎ (item ≡ y)
 below_or y item lt = elim (tested (item == y)) [ inl e ↦ inr (eq_of item y e) | inr e ↦ inl (grind (arith, nat_tests)) ]
 
-pub all_in : (item : ℕ) (order afters : List ℕ) → AreEarlier item afters → ((z : ℕ) → z < item → is_in z order ≡ true) → (x : ℕ) → x < item + length afters → is_in x (grown item order afters) ≡ true
+pub all_in : (item : ℕ) (order afters : List ℕ) → AreEarlier item afters → ((z : ℕ) → z < item → is_in z order ≡ true) → (x : ℕ) → x < item + length afters
+    → is_in x (grown item order afters) ≡ true
 all_in item order [] e h x lt = h x (omega (arith, lt))
 all_in item order (a ∷ as') e h x lt =
     all_in (item + 1) (put_after a (item ∷ []) order) as' e.1 (λ z zl. elim (below_or z item zl) [
@@ -80,7 +83,8 @@ all_in item order (a ∷ as') e h x lt =
       | inr new ↦ subst (λ i. is_in i (put_after a (item ∷ []) order) ≡ true) new (item_in a item order (h a e.0))
     ]) x (omega (arith, lt))
 
-pub only_below : (item : ℕ) (order afters : List ℕ) → ((z : ℕ) → is_in z order ≡ true → z < item) → (x : ℕ) → is_in x (grown item order afters) ≡ true → x < item + length afters
+pub only_below : (item : ℕ) (order afters : List ℕ) → ((z : ℕ) → is_in z order ≡ true → z < item) → (x : ℕ) → is_in x (grown item order afters) ≡ true
+    → x < item + length afters
 only_below item order [] h x in_ = omega (arith, h x in_)
 only_below item order (a ∷ as') h x in_ =
     let r = only_below (item + 1) (put_after a (item ∷ []) order) as' (λ z iz. elim (tested (item == z)) [
@@ -107,7 +111,8 @@ abbrev pub TellOrder : (ℕ → ℕ) → List ℕ → Type 0
 TellOrder label order = (x y : ℕ) → is_in x order ≡ true → is_in y order ≡ true → nat_lt (label x) (label y) ≡ stands_before x y order
 
 -- what is told of a longer log holds of the items of a shorter one
-pub told : (label : ℕ → ℕ) (as' bs : List ℕ) (x y : ℕ) → AreEarlier 1 as' → x < length as' + 1 → y < length as' + 1 → TellOrder label (order_of (as' ++ bs)) → nat_lt (label x) (label y) ≡ stands_before x y (order_of as')
+pub told : (label : ℕ → ℕ) (as' bs : List ℕ) (x y : ℕ) → AreEarlier 1 as' → x < length as' + 1 → y < length as' + 1 → TellOrder label (order_of (as' ++ bs))
+    → nat_lt (label x) (label y) ≡ stands_before x y (order_of as')
 told label as' bs x y e lx ly t =
     let n = 1 + length as' in
     let old = order_of as' in
@@ -118,7 +123,8 @@ told label as' bs x y e lx ly t =
     t' x y (in_grown n old bs x xn ∙ order_in as' e x lx) (in_grown n old bs y yn ∙ order_in as' e y ly) ∙ before_grown n old bs x y xn yn
 
 -- how many items there are
-grown_length : (item : ℕ) (order afters : List ℕ) → AreEarlier item afters → ((z : ℕ) → z < item → is_in z order ≡ true) → length (grown item order afters) ≡ length order + length afters
+grown_length : (item : ℕ) (order afters : List ℕ) → AreEarlier item afters → ((z : ℕ) → z < item → is_in z order ≡ true)
+    → length (grown item order afters) ≡ length order + length afters
 grown_length item order [] e h = sym (add-zero (length order))
 grown_length item order (a ∷ as') e h =
     let r = grown_length (item + 1) (put_after a (item ∷ []) order) as' e.1 (λ z zl. elim (below_or z item zl) [
@@ -134,7 +140,8 @@ pub earlier_snoc : (item : ℕ) (afters : List ℕ) (x : ℕ) → AreEarlier ite
 earlier_snoc item [] x e lt = (omega (arith, lt), tt)
 earlier_snoc item (a ∷ as') x e lt = (e.0, earlier_snoc (item + 1) as' x e.1 (omega (arith, lt)))
 
-stays : (f : Insert → ℕ) (log start : List Insert) → StartsWith log start → (x y : ℕ) → x < length start + 1 → y < length start + 1 → stands_before x y (order_of (map f log)) ≡ stands_before x y (order_of (map f start))
+stays : (f : Insert → ℕ) (log start : List Insert) → StartsWith log start → (x y : ℕ) → x < length start + 1 → y < length start + 1
+    → stands_before x y (order_of (map f log)) ≡ stands_before x y (order_of (map f start))
 stays f log start s x y lx ly =
     let as' = map f start in
     let parts : map f log ≡ as' ++ map f s.0 = ap (map f) s.1 ∙ map-append f start s.0 in

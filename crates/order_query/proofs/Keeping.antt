@@ -1,5 +1,6 @@
 -- Each kind of step keeps the order rule.
-use Rattle.std.proofs.Common.{◌≡◌, ◌≢◌, ℕ, ◌+◌, ◌*◌, ◌%◌, ◌<◌, ◌≤◌, Bool, true, false, List, [], ◌∷◌, ◌++◌, inl, inr, length, length-append, sym, ◌∙◌, subst, refl, ap, arith}
+use Rattle.std.proofs.Common.{◌≡◌, ◌≢◌, ℕ, ◌+◌, ◌*◌, ◌%◌, ◌<◌, ◌≤◌, Bool, true, false, List, [], ◌∷◌, ◌++◌, inl, inr, length, length-append, sym, ◌∙◌, subst}
+use Rattle.std.proofs.Common.{refl, ap, arith}
 use Rattle.std.specs.Prelude.{◌==◌, if◌then◌else◌, slice_index, slice_set}
 use lib.ListN.{get_elem?}
 use lib.Seq.{set-get_or}
@@ -25,7 +26,8 @@ at_most_snoc : (a : ℕ) (ns : List ℕ) → AtMost a ns → AtMost a (ns ++ a �
 at_most_snoc a [] h = (omega arith, tt)
 at_most_snoc a (n ∷ ns) h = (h.0, at_most_snoc a ns h.1)
 
-same_words : (words after : List ℕ) (end : ℕ) (ls : List Label) → ((w : ℕ) → 2 ≤ w → w < end → slice_index after w ≡ slice_index words w) → AreLabelWords end ls → AreWords words ls → AreWords after ls
+same_words : (words after : List ℕ) (end : ℕ) (ls : List Label) → ((w : ℕ) → 2 ≤ w → w < end → slice_index after w ≡ slice_index words w) → AreLabelWords end ls
+    → AreWords words ls → AreWords after ls
 same_words words after end [] same k a = tt
 same_words words after end (l ∷ ls) same k a = (same l.word k.0 k.1 ∙ a.0, same_words words after end ls same k.2 a.1)
 
@@ -34,7 +36,8 @@ known_on a b [] le h = tt
 known_on a b (l ∷ ls) le h = (h.0, omega (arith, h.1, le), known_on a b ls le h.2)
 
 -- a version that was loaded
-snapshot_on : (words : List ℕ) (end n : ℕ) (snapshot : Snapshot) (s t : Bool) → n ≡ slice_index words 0 → (t ≡ true → n % 2 ≡ 0) → IsSnapshot words end snapshot → IsSnapshot words end (if s then snapshot else (if t then record { version = n; labels = [] } else snapshot))
+snapshot_on : (words : List ℕ) (end n : ℕ) (snapshot : Snapshot) (s t : Bool) → n ≡ slice_index words 0 → (t ≡ true → n % 2 ≡ 0) → IsSnapshot words end snapshot
+    → IsSnapshot words end (if s then snapshot else (if t then record { version = n; labels = [] } else snapshot))
 snapshot_on words end n snapshot true t is even h = h
 snapshot_on words end n snapshot false false is even h = h
 snapshot_on words end n snapshot false true is even h = record { even = even refl; most = omega (arith, is); known = tt; same = λ _. tt }
@@ -54,10 +57,12 @@ writer_seat s id v kept at writes =
     ]
 
 writer_is : (s : State (Unit {0}) View) (id : ℕ) (v : View) (kept : OrderRule s) → get_elem? s.views id ≡ some v → id ≡ 0 → IsWriter s.words kept.log v
-writer_is s id v kept at first = subst (IsWriter s.words kept.log) (some-injective _ _ (sym kept.writer_first ∙ ap (get_elem? s.views) (sym first) ∙ at)) kept.knows_all
+writer_is s id v kept at first = subst (IsWriter s.words kept.log)
+    (some-injective _ _ (sym kept.writer_first ∙ ap (get_elem? s.views) (sym first) ∙ at)) kept.knows_all
 
 -- a step that changes a reader's view alone
-module _ (s : State (Unit {0}) View) (id : ℕ) (v w : View) (kept : OrderRule s) (at : get_elem? s.views id ≡ some v) (was : v.writes ≡ false) (on : IsReader s.words kept.log v → IsReader s.words kept.log w) where
+module _ (s : State (Unit {0}) View) (id : ℕ) (v w : View) (kept : OrderRule s) (at : get_elem? s.views id ≡ some v) (was : v.writes ≡ false)
+    (on : IsReader s.words kept.log v → IsReader s.words kept.log w) where
   pub kept_view : OrderRule (record { words = s.words; homes = s.homes; views = slice_set s.views id w })
   kept_view =
       let ne = reader_seat s id v kept at was in
@@ -74,7 +79,11 @@ module _ (s : State (Unit {0}) View) (id : ℕ) (v w : View) (kept : OrderRule s
       }
 
   pub kept_load : (i : ℕ) → OrderRule (record { words = slice_set s.words i (slice_index s.words i); homes = s.homes; views = slice_set s.views id w })
-  kept_load i = subst (λ (ws : List ℕ). OrderRule (record { words = ws; homes = s.homes; views = slice_set s.views id w })) (sym (set-get_or s.words i 0)) kept_view
+  kept_load i = subst (λ (ws : List ℕ). OrderRule (record {
+    words = ws;
+    homes = s.homes;
+    views = slice_set s.views id w;
+  })) (sym (set-get_or s.words i 0)) kept_view
 
 version_on : (words : List ℕ) (log : List Insert) (v : View) → IsReader words log v → IsReader words log (after_version v (slice_index words 0))
 version_on words log v r =
@@ -88,7 +97,13 @@ version_on words log v r =
     }
 
 moment : (words : List ℕ) (log : List Insert) (v : View) → IsPublished words log → IsReader words log v → slice_index words 0 ≡ v.snapshot.version → IsMoment v
-moment words log v p r e = record { words = words; log = log; starts = r.starts; labels = r.snapshot.same (sym e); rises = p.rising (ap (λ (n : ℕ). n % 2) e ∙ r.snapshot.even) }
+moment words log v p r e = record {
+  words = words;
+  log = log;
+  starts = r.starts;
+  labels = r.snapshot.same (sym e);
+  rises = p.rising (ap (λ (n : ℕ). n % 2) e ∙ r.snapshot.even);
+}
 
 pub loads_version : (slots id : ℕ) (v : View) → v.writes ≡ false → Allows OrderRule slots id (v, []) 0 (λ n. n) (LoadedVersion (step slots 0 0 0 none) (v, []))
 loads_version slots id v was s kept homes at fits =
@@ -100,7 +115,8 @@ loads_version slots id v was s kept homes at fits =
       (refl, (λ e. moment s.words kept.log v kept.published (kept.readers id v at (reader_seat s id v kept at was)) e)),
     )
 
-label_on : (words : List ℕ) (log : List Insert) (v : View) (word : ℕ) → 2 ≤ word → word < 2 * length v.log + 4 → IsReader words log v → IsReader words log (after_label v word (slice_index words word))
+label_on : (words : List ℕ) (log : List Insert) (v : View) (word : ℕ) → 2 ≤ word → word < 2 * length v.log + 4 → IsReader words log v
+    → IsReader words log (after_label v word (slice_index words word))
 label_on words log v word low high r = record {
   reads = r.reads;
   starts = r.starts;
@@ -109,7 +125,8 @@ label_on words log v word low high r = record {
   loads = r.loads;
 }
 
-pub loads_label : (slots id word : ℕ) (v : View) → v.writes ≡ false → 2 ≤ word → word < 2 * length v.log + 4 → Allows OrderRule slots id (v, []) word (λ n. n) (LoadedLabel (step slots word 0 0 none) (v, []))
+pub loads_label : (slots id word : ℕ) (v : View) → v.writes ≡ false → 2 ≤ word → word < 2 * length v.log + 4
+    → Allows OrderRule slots id (v, []) word (λ n. n) (LoadedLabel (step slots word 0 0 none) (v, []))
 loads_label slots id word v was low high s kept homes at fits = (
   after_label v word (slice_index s.words word),
   keeps,
@@ -128,8 +145,10 @@ newcomer_on words log start starts = record {
 }
 
 -- the log of a view begins the log
-log_starts : (s : State (Unit {0}) View) (id : ℕ) (v : View) (b : Bool) (k : OrderRule s) → get_elem? s.views id ≡ some v → v.writes ≡ b → StartsWith k.log v.log
-log_starts s id v true k at is = subst (λ (l : List Insert). StartsWith k.log l) (sym (writer_is s id v k at (writer_seat s id v k at is)).log_is) (starts_self k.log)
+log_starts : (s : State (Unit {0}) View) (id : ℕ) (v : View) (b : Bool) (k : OrderRule s) → get_elem? s.views id ≡ some v → v.writes ≡ b
+    → StartsWith k.log v.log
+log_starts s id v true k at is = subst (λ (l : List Insert). StartsWith k.log l)
+    (sym (writer_is s id v k at (writer_seat s id v k at is)).log_is) (starts_self k.log)
 log_starts s id v false k at is = (k.readers id v at (reader_seat s id v k at is)).starts
 
 pub splits : (id : ℕ) (v : View) → Splits OrderRule id v v (reader_of v.log)
@@ -165,7 +184,11 @@ joins id other v w was was' s kept at apart at' =
     let at_w : get_elem? s.views other ≡ some w = elim (at_set s.views id other both w at') [ inl here ↦ absurd (apart here.0) | inr else' ↦ else'.1 ] in
     let q = kept.readers other w at_w (reader_seat s other w kept at_w was') in
     let one = kept_view s id v both kept at was (λ r. join_on s.words kept.log v w r q) in
-    kept_view (record { words = s.words; homes = s.homes; views = slice_set s.views id both }) other w (reader_of []) one at' was' (λ r. newcomer_on s.words kept.log [] (kept.log, refl))
+    kept_view (record {
+      words = s.words;
+      homes = s.homes;
+      views = slice_set s.views id both;
+    }) other w (reader_of []) one at' was' (λ r. newcomer_on s.words kept.log [] (kept.log, refl))
 
 reader_on : (words after : List ℕ) (log longer : List Insert) (v : View) → MayWrite words log after longer → IsReader words log v → IsReader after longer v
 reader_on words after log longer v m r =
@@ -183,7 +206,8 @@ reader_on words after log longer v m r =
             let stays : slice_index words 0 ≡ slice_index after 0 = omega (arith, r.snapshot.most, m.version, e) in
             let snapshot : v.snapshot.version ≡ slice_index words 0 = omega (arith, stays, e) in
             let even : slice_index words 0 % 2 ≡ 0 = ap (λ (n : ℕ). n % 2) (sym snapshot) ∙ r.snapshot.even in
-            same_words words after (2 * length v.log + 4) v.snapshot.labels (λ w low high. m.steady stays even w low (omega (arith, high, short))) r.snapshot.known (r.snapshot.same snapshot);
+            same_words words after (2 * length v.log + 4) v.snapshot.labels (λ w low high. m.steady stays even w low (omega (arith, high, short)))
+            r.snapshot.known (r.snapshot.same snapshot);
       };
       loads = at_most_on (slice_index words 0) (slice_index after 0) v.loaded m.version r.loads;
     }
@@ -194,7 +218,9 @@ some_length [] v e = absurd (some-ne-none v (sym e))
 some_length (u ∷ us) v e = omega arith
 
 -- a store of the writer, which its view allows
-pub writes : (slots id i n : ℕ) (v : View) (longer : List Insert) → v.writes ≡ true → (IsPublished v.words v.log → MayWrite v.words v.log (slice_set v.words i n) longer) → Allows OrderRule slots id (v, []) i (λ _. n) (λ _ w. w ≡ (after_store v i n longer, []))
+pub writes : (slots id i n : ℕ) (v : View) (longer : List Insert) → v.writes ≡ true
+    → (IsPublished v.words v.log → MayWrite v.words v.log (slice_set v.words i n) longer)
+    → Allows OrderRule slots id (v, []) i (λ _. n) (λ _ w. w ≡ (after_store v i n longer, []))
 writes slots id i n v longer was may s kept homes at fits =
     let first = writer_seat s id v kept at was in
     let me = writer_is s id v kept at first in

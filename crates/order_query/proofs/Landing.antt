@@ -1,5 +1,6 @@
 -- What the writer keeps from one insert to the next.
-use Rattle.std.proofs.Common.{◌≡◌, ◌≢◌, ℕ, zero, suc, ◌+◌, ◌-◌, ◌*◌, ◌%◌, ◌<◌, ◌≤◌, true, List, [], ◌∷◌, ◌++◌, length, length-append, map, sym, ◌∙◌, subst, refl, ap, arith}
+use Rattle.std.proofs.Common.{◌≡◌, ◌≢◌, ℕ, zero, suc, ◌+◌, ◌-◌, ◌*◌, ◌%◌, ◌<◌, ◌≤◌, true, List, [], ◌∷◌, ◌++◌, length, length-append, map, sym, ◌∙◌, subst}
+use Rattle.std.proofs.Common.{refl, ap, arith}
 use Rattle.std.specs.Prelude.{slice_index}
 use Rattle.std.proofs.lemmas.List.{map-append, length-map, length-replicate}
 use lib.ListN.{get_elem?}
@@ -18,12 +19,16 @@ use Rattle.order_query.specs.Rule.{OrderRule, IsReader}
 use Rattle.order_query.specs.Showing.{with_words, MayShow, MayCount}
 use Rattle.order_query.proofs.Growing.{english_count, earlier_snoc}
 
-earlier_more : (f : Insert → ℕ) (log : List Insert) (insert : Insert) → AreEarlier 1 (map f log) → f insert < length log + 1 → AreEarlier 1 (map f (log ++ insert ∷ []))
-earlier_more f log insert e lt = subst (AreEarlier 1) (sym (map-append f log (insert ∷ []))) (earlier_snoc 1 (map f log) (f insert) e (omega (arith, lt, length-map log f)))
+earlier_more : (f : Insert → ℕ) (log : List Insert) (insert : Insert) → AreEarlier 1 (map f log) → f insert < length log + 1
+    → AreEarlier 1 (map f (log ++ insert ∷ []))
+earlier_more f log insert e lt = subst (AreEarlier 1) (sym (map-append f log (insert ∷ [])))
+    (earlier_snoc 1 (map f log) (f insert) e (omega (arith, lt, length-map log f)))
 
 -- an insert at x and y: the lists before it, once there is space, and after it
-module _ (home at : TableId) (me : Me (Unit {0}) View) (old mid : Lists) (version x y : ℕ) (w : Windows) (inv : IsWriting old at me version) (home_is : at ≡ home) (x_in : x < length old.english.order) (y_in : y < length old.hebrew.order) (room : 1 ≤ old.english.room)
-    (was : AreKept old) (mid_kept : AreKept mid) (space_e : HasMadeSpace old.english x w.english mid.english) (space_h : HasMadeSpace old.hebrew y w.hebrew mid.hebrew) where
+module _ (home at : TableId) (me : Me (Unit {0}) View) (old mid : Lists) (version x y : ℕ) (w : Windows) (inv : IsWriting old at me version)
+    (home_is : at ≡ home) (x_in : x < length old.english.order) (y_in : y < length old.hebrew.order) (room : 1 ≤ old.english.room)
+    (was : AreKept old) (mid_kept : AreKept mid) (space_e : HasMadeSpace old.english x w.english mid.english)
+    (space_h : HasMadeSpace old.hebrew y w.hebrew mid.hebrew) where
   log_count : length old.english.order ≡ length me.0.log + 1
   log_count = ap (length {A = ℕ}) inv.shown.english.order_is ∙ english_count me.0.log inv.earlier.0
 
@@ -50,7 +55,8 @@ module _ (home at : TableId) (me : Me (Unit {0}) View) (old mid : Lists) (versio
   }
 
   module _ (new : Lists) (item : ℕ) (kept : AreKept new) (ins_e : HasInserted mid.english x item new.english) (ins_h : HasInserted mid.hebrew y item new.hebrew)
-      (me2 : Me (Unit {0}) View) (view : me2 ≡ (with_words me.0 me2.0.words, [])) (size : length me2.0.words ≡ length me.0.words) (shown : ShowBoth me2.0.words me.0.log mid) where
+      (me2 : Me (Unit {0}) View) (view : me2 ≡ (with_words me.0 me2.0.words, [])) (size : length me2.0.words ≡ length me.0.words)
+      (shown : ShowBoth me2.0.words me.0.log mid) where
     insert : Insert
     insert = record { english = x; hebrew = y }
 
@@ -75,7 +81,9 @@ module _ (home at : TableId) (me : Me (Unit {0}) View) (old mid : Lists) (versio
       shown = subst (λ (l : List Insert). ShowBoth me2.0.words l mid) (sym log_is) shown;
     }
 
-    pub is_writing : (at4 : TableId) (me4 : Me (Unit {0}) View) (version4 : ℕ) → at4 ≡ at → me4.1 ≡ [] → me4.0.writes ≡ true → length me4.0.words ≡ length me2.0.words → version4 ≡ slice_index me2.0.words 0 → slice_index me4.0.words 0 ≡ slice_index me2.0.words 0 → version4 % 2 ≡ 0 → version4 ≤ version + 2
+    pub is_writing : (at4 : TableId) (me4 : Me (Unit {0}) View) (version4 : ℕ) → at4 ≡ at → me4.1 ≡ [] → me4.0.writes ≡ true
+        → length me4.0.words ≡ length me2.0.words → version4 ≡ slice_index me2.0.words 0 → slice_index me4.0.words 0 ≡ slice_index me2.0.words 0
+        → version4 % 2 ≡ 0 → version4 ≤ version + 2
         → me4.0.log ≡ me2.0.log ++ record { english = x; hebrew = y } ∷ [] → ShowBoth me4.0.words me4.0.log new → IsWriting new at4 me4 version4
     is_writing at4 me4 version4 at_is alone writes size4 version_is version_same even most log4 shown4 =
         let added : Insert = record { english = x; hebrew = y } in

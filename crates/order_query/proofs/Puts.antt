@@ -1,5 +1,6 @@
 -- Labels of a window that are put into the words.
-use Rattle.std.proofs.Common.{◌≡◌, ◌≢◌, ℕ, ◌+◌, ◌*◌, ◌^◌, ◌<◌, ◌≤◌, true, false, List, [], ◌∷◌, ◌++◌, ◌⊎◌, inl, inr, length, length-append, append_assoc, sym, ◌∙◌, subst, refl, ap, arith, get_or-set_same, get_or-set_other, length-set}
+use Rattle.std.proofs.Common.{◌≡◌, ◌≢◌, ℕ, ◌+◌, ◌*◌, ◌^◌, ◌<◌, ◌≤◌, true, false, List, [], ◌∷◌, ◌++◌, ◌⊎◌, inl, inr, length, length-append, append_assoc, sym}
+use Rattle.std.proofs.Common.{◌∙◌, subst, refl, ap, arith, get_or-set_same, get_or-set_other, length-set}
 use Rattle.std.specs.Prelude.{◌==◌, Option, Some, None, slice_index, slice_set, unwrap_or}
 use Rattle.std.specs.Option.{option_map}
 use Rattle.order_list.specs.declared.item.Item.{Item}
@@ -20,14 +21,19 @@ use Rattle.order_query.specs.Showing.{word_of, set_labels, with_words, AreItemsO
 
 pub put_size : (words : List ℕ) (side : ℕ) (labels ys : List ℕ) → length (set_labels words side labels ys) ≡ length words
 put_size words side labels [] = refl
-put_size words side labels (y ∷ ys) = put_size (slice_set words (2 * y + side) (slice_index labels y)) side labels ys ∙ length-set words (2 * y + side) (slice_index labels y)
+put_size words side labels (y ∷ ys) = put_size (slice_set words (2 * y + side) (slice_index labels y)) side labels ys
+    ∙ length-set words (2 * y + side) (slice_index labels y)
 
-pub put_other : (words : List ℕ) (side : ℕ) (labels ys : List ℕ) (i : ℕ) → ((y : ℕ) → i ≢ 2 * y + side) → slice_index (set_labels words side labels ys) i ≡ slice_index words i
+pub put_other : (words : List ℕ) (side : ℕ) (labels ys : List ℕ) (i : ℕ) → ((y : ℕ) → i ≢ 2 * y + side)
+    → slice_index (set_labels words side labels ys) i ≡ slice_index words i
 put_other words side labels [] i ne = refl
 put_other words side labels (y ∷ ys) i ne =
-    put_other (slice_set words (2 * y + side) (slice_index labels y)) side labels ys i ne ∙ get_or-set_other words (2 * y + side) i (slice_index labels y) 0 (ne y)
+    put_other (slice_set words (2 * y + side) (slice_index labels y)) side labels ys i ne
+    ∙ get_or-set_other words (2 * y + side) i (slice_index labels y) 0 (ne y)
 
-pub put_label : (words : List ℕ) (side : ℕ) (labels ys : List ℕ) (n y : ℕ) → AllBelow n ys → 2 * n + 2 ≤ length words → side ≤ 3 → (slice_index words (2 * y + side) ≡ slice_index labels y) ⊎ (is_in y ys ≡ true) → slice_index (set_labels words side labels ys) (2 * y + side) ≡ slice_index labels y
+pub put_label : (words : List ℕ) (side : ℕ) (labels ys : List ℕ) (n y : ℕ) → AllBelow n ys → 2 * n + 2 ≤ length words → side ≤ 3
+    → (slice_index words (2 * y + side) ≡ slice_index labels y) ⊎ (is_in y ys ≡ true)
+    → slice_index (set_labels words side labels ys) (2 * y + side) ≡ slice_index labels y
 put_label words side labels [] n y b fits few (inl e) = e
 put_label words side labels [] n y b fits few (inr h) = cc
 put_label words side labels (z ∷ zs) n y b fits few h =
@@ -36,10 +42,12 @@ put_label words side labels (z ∷ zs) n y b fits few h =
     elim (tested (z == y)) [
       | inl e ↦ (
           let same = eq_of z y e in
-          let set : slice_index next (2 * z + side) ≡ slice_index labels z = get_or-set_same words (2 * z + side) (slice_index labels z) 0 (omega (arith, b.0, fits, few)) in
+          let set : slice_index next (2 * z + side) ≡ slice_index labels z = get_or-set_same words (2 * z + side) (slice_index labels
+          z) 0 (omega (arith, b.0, fits, few)) in
           put_label next side labels zs n y b.1 fits' few (inl (subst (λ (k : ℕ). slice_index next (2 * k + side) ≡ slice_index labels k) same set)))
       | inr e ↦ (
-          let kept : slice_index next (2 * y + side) ≡ slice_index words (2 * y + side) = get_or-set_other words (2 * z + side) (2 * y + side) (slice_index labels z) 0 (λ s. apart z y e (omega (arith, s))) in
+          let kept : slice_index next (2 * y + side) ≡ slice_index words (2 * y + side) = get_or-set_other words (2 * z + side) (2 * y + side) (slice_index
+          labels z) 0 (λ s. apart z y e (omega (arith, s))) in
           put_label next side labels zs n y b.1 fits' few (elim h [ inl old ↦ inl (kept ∙ old) | inr later ↦ inr (rw e at later) ]))
     ]
 
@@ -131,7 +139,8 @@ module _ (words : List ℕ) (side : ℕ) (l : Ordered) (w : Window) (items : Lis
         ∙ ap (λ (t : List ℕ). behind ++ t) (append_assoc putting.done (y.0 ∷ f.0) ahead)
         ∙ sym (append_assoc behind putting.done (y.0 ∷ (f.0 ++ ahead))) in
         let out : is_in y.0 pre ≡ false = not_behind l.labels pre 0 (2 ^ 62) y.0 (f.0 ++ ahead) (subst (Rises l.labels 0 (2 ^ 62)) order kept.rises) in
-        let there : is_in y.0 l.order ≡ true = subst (λ (t : List ℕ). is_in y.0 t ≡ true) (sym order) (in_right y.0 pre (y.0 ∷ (f.0 ++ ahead)) (head_in y.0 (f.0 ++ ahead))) in
+        let there : is_in y.0 l.order ≡ true = subst (λ (t : List ℕ). is_in y.0 t ≡ true) (sym order) (in_right y.0 pre (y.0 ∷ (f.0 ++ ahead))
+        (head_in y.0 (f.0 ++ ahead))) in
         record {
           rest = f.0;
           left_is = f.1;
@@ -143,7 +152,8 @@ module _ (words : List ℕ) (side : ℕ) (l : Ordered) (w : Window) (items : Lis
         first_left [] lt' e = absurd (omega arith)
         first_left (x ∷ xs) lt' e = (xs, (let same : y.0 ≡ x = cc in ap (λ (t : ℕ). t ∷ xs) (sym same)))
 
-    pub put_more : (y : Item) (next : Option Item) → at ≡ Some y → 2 ≤ side → option_map (λ (i : Item). i.0) next ≡ next_of y.0 l.order → IsPutting words side l.labels items (slice_set after (word_of side y.0) (slice_index l.labels y.0)) (k + 1) next
+    pub put_more : (y : Item) (next : Option Item) → at ≡ Some y → 2 ≤ side → option_map (λ (i : Item). i.0) next ≡ next_of y.0 l.order
+        → IsPutting words side l.labels items (slice_set after (word_of side y.0) (slice_index l.labels y.0)) (k + 1) next
     put_more y next is low next_is =
         let t = put_turn y is in
         record {
@@ -161,12 +171,14 @@ module _ (words : List ℕ) (side : ℕ) (l : Ordered) (w : Window) (items : Lis
         head_next [] e = tt
         head_next (x ∷ xs) e = e
 
-  pub put_all : (after : List ℕ) (k : ℕ) (at : Option Item) → w.items ≤ k → IsPutting words side l.labels items after k at → after ≡ set_labels words side l.labels items
+  pub put_all : (after : List ℕ) (k : ℕ) (at : Option Item) → w.items ≤ k → IsPutting words side l.labels items after k at
+      → after ≡ set_labels words side l.labels items
   put_all after k at le putting =
       let all : length items ≡ length putting.done + length putting.left = ap (length {A = ℕ}) putting.parts ∙ length-append putting.done putting.left in
       ended putting.left (omega (arith, all, putting.count, are.count, le)) putting.words_are
     where
-      ended : (left : List ℕ) → length left ≡ 0 → set_labels after side l.labels left ≡ set_labels words side l.labels items → after ≡ set_labels words side l.labels items
+      ended : (left : List ℕ) → length left ≡ 0 → set_labels after side l.labels left ≡ set_labels words side l.labels items
+          → after ≡ set_labels words side l.labels items
       ended [] e is = is
       ended (y ∷ ys) e is = absurd (omega arith)
 
@@ -190,11 +202,14 @@ pub changes_none : (words : List ℕ) (side : ℕ) → ChangesSide words side wo
 changes_none words side = record { size = refl; others = λ i ne. refl }
 
 -- the words that had the labels from before have the new ones once those of the window are put
-pub shows_window : (words : List ℕ) (side : ℕ) (order : List ℕ) (old new : Ordered) (x : ℕ) (w : Window) → side ≤ 3 → 2 * length new.order + 2 ≤ length words → IsKept new → (m : HasMadeSpace old x (Some w) new) → Shows words (word_of side) order old → Shows (set_labels words side new.labels (items_of old new x w m).0) (word_of side) order new
+pub shows_window : (words : List ℕ) (side : ℕ) (order : List ℕ) (old new : Ordered) (x : ℕ) (w : Window) → side ≤ 3 → 2 * length new.order + 2 ≤ length words
+    → IsKept new → (m : HasMadeSpace old x (Some w) new) → Shows words (word_of side) order old
+    → Shows (set_labels words side new.labels (items_of old new x w m).0) (word_of side) order new
 shows_window words side order old new x w few fits kept m s =
     let are = items_of old new x w m in
     let n = length new.order in
-    let below = below_append n are.0 are.1.segment.ahead (below_append n are.1.segment.behind (are.0 ++ are.1.segment.ahead) (subst (AllBelow n) are.1.segment.parts kept.numbered.below)).1 in
+    let below = below_append n are.0 are.1.segment.ahead (below_append n are.1.segment.behind (are.0 ++ are.1.segment.ahead)
+    (subst (AllBelow n) are.1.segment.parts kept.numbered.below)).1 in
     record {
       order_is = m.order_is ∙ s.order_is;
       labels_are = λ y lt. put_label words side new.labels are.0 n y below.0 fits few (elim (tested (is_in y are.0)) [
@@ -204,25 +219,30 @@ shows_window words side order old new x w few fits kept m s =
     }
 
 -- and where no label was made anew they have them
-pub shows_none : (words : List ℕ) (word : ℕ → ℕ) (order : List ℕ) (old new : Ordered) (x : ℕ) → HasMadeSpace old x None new → Shows words word order old → Shows words word order new
+pub shows_none : (words : List ℕ) (word : ℕ → ℕ) (order : List ℕ) (old new : Ordered) (x : ℕ) → HasMadeSpace old x None new → Shows words word order old
+    → Shows words word order new
 shows_none words word order old new x m s = record {
   order_is = m.order_is ∙ s.order_is;
   labels_are = λ y lt. s.labels_are y (subst (λ (o : List ℕ). y < length o) m.order_is lt) ∙ ap (λ (ls : List ℕ). slice_index ls y) (sym m.labels_are.1);
 }
 
 -- a list whose words did not change
-pub shows_on : (words after : List ℕ) (word : ℕ → ℕ) (order : List ℕ) (l : Ordered) → ((x : ℕ) → slice_index after (word x) ≡ slice_index words (word x)) → Shows words word order l → Shows after word order l
+pub shows_on : (words after : List ℕ) (word : ℕ → ℕ) (order : List ℕ) (l : Ordered) → ((x : ℕ) → slice_index after (word x) ≡ slice_index words (word x))
+    → Shows words word order l → Shows after word order l
 shows_on words after word order l same s = record { order_is = s.order_is; labels_are = λ x lt. same x ∙ s.labels_are x lt }
 
 -- the same for both lists, where a word changed that is no label
 pub both_on : (words : List ℕ) (i n : ℕ) (log : List Insert) (lists : Lists) → i < 2 → ShowBoth words log lists → ShowBoth (slice_set words i n) log lists
 both_on words i n log lists lt s = record {
-  english = shows_on words (slice_set words i n) english_word (english_of log) lists.english (λ x. get_or-set_other words i (english_word x) n 0 (λ e. omega (arith, e, lt))) s.english;
-  hebrew = shows_on words (slice_set words i n) hebrew_word (hebrew_of log) lists.hebrew (λ x. get_or-set_other words i (hebrew_word x) n 0 (λ e. omega (arith, e, lt))) s.hebrew;
+  english = shows_on words (slice_set words i n) english_word (english_of log) lists.english
+      (λ x. get_or-set_other words i (english_word x) n 0 (λ e. omega (arith, e, lt))) s.english;
+  hebrew = shows_on words (slice_set words i n) hebrew_word (hebrew_of log) lists.hebrew
+      (λ x. get_or-set_other words i (hebrew_word x) n 0 (λ e. omega (arith, e, lt))) s.hebrew;
 }
 
 -- the words have the new labels of both lists once those of either are put
-pub both_shown : (w1 w2 w3 : List ℕ) (log : List Insert) (old new : Lists) → ShowBoth w1 log old → (Shows w1 english_word (english_of log) old.english → Shows w2 english_word (english_of log) new.english) → ChangesSide w1 2 w2
+pub both_shown : (w1 w2 w3 : List ℕ) (log : List Insert) (old new : Lists) → ShowBoth w1 log old
+    → (Shows w1 english_word (english_of log) old.english → Shows w2 english_word (english_of log) new.english) → ChangesSide w1 2 w2
     → (Shows w2 hebrew_word (hebrew_of log) old.hebrew → Shows w3 hebrew_word (hebrew_of log) new.hebrew) → ChangesSide w2 3 w3 → ShowBoth w3 log new
 both_shown w1 w2 w3 log old new s english c2 hebrew c3 = record {
   english = shows_on w2 w3 english_word (english_of log) new.english (λ x. c3.others (english_word x) (λ y e. omega (arith, e))) (english s.english);
@@ -238,7 +258,8 @@ no_window old x labels (Some w) s ne = absurd (ne s.0)
 pub words_now : (a b : Me (Unit {0}) View) (ws : List ℕ) → b ≡ (with_words a.0 ws, []) → b.0.words ≡ ws
 words_now a b ws e = ap (λ (m : Me (Unit {0}) View). m.0.words) e
 
-pub more_words : (v : View) (a b : Me (Unit {0}) View) (ws : List ℕ) → a ≡ (with_words v a.0.words, []) → b ≡ (with_words a.0 ws, []) → b ≡ (with_words v b.0.words, [])
+pub more_words : (v : View) (a b : Me (Unit {0}) View) (ws : List ℕ) → a ≡ (with_words v a.0.words, []) → b ≡ (with_words a.0 ws, [])
+    → b ≡ (with_words v b.0.words, [])
 more_words v a b ws e f =
     let next : List ℕ → Me (Unit {0}) View → Me (Unit {0}) View = λ l m. (with_words m.0 l, []) in
     f ∙ ap (next ws) e ∙ ap (λ (l : List ℕ). next l (v, [])) (sym (words_now a b ws f))

@@ -34,11 +34,24 @@ pub record IsLonger (log a b c : List Insert) : Type 0 where
   pub first_count : length a ≤ length c
   pub second_count : length b ≤ length c
 
-by_test : (log a b : List Insert) (t : Bool) → StartsWith log a → StartsWith log b → (t ≡ true → length a < length b) → (t ≡ false → length b ≤ length a) → IsLonger log a b (if t then b else a)
+by_test : (log a b : List Insert) (t : Bool) → StartsWith log a → StartsWith log b → (t ≡ true → length a < length b) → (t ≡ false → length b ≤ length a)
+    → IsLonger log a b (if t then b else a)
 by_test log a b true s t h k =
-    let lt = h refl in record { begins = t; first = two_starts a b s.0 t.0 (sym s.1 ∙ t.1) (omega (arith, lt)); second = starts_self b; first_count = omega (arith, lt); second_count = omega arith }
+    let lt = h refl in record {
+      begins = t;
+      first = two_starts a b s.0 t.0 (sym s.1 ∙ t.1) (omega (arith, lt));
+      second = starts_self b;
+      first_count = omega (arith, lt);
+      second_count = omega arith;
+    }
 by_test log a b false s t h k =
-    let le = k refl in record { begins = s; first = starts_self a; second = two_starts b a t.0 s.0 (sym t.1 ∙ s.1) le; first_count = omega arith; second_count = le }
+    let le = k refl in record {
+      begins = s;
+      first = starts_self a;
+      second = two_starts b a t.0 s.0 (sym t.1 ∙ s.1) le;
+      first_count = omega arith;
+      second_count = le;
+    }
 
 pub longer_is : (log a b : List Insert) → StartsWith log a → StartsWith log b → IsLonger log a b (longer a b)
 longer_is log a b s t = by_test log a b (nat_lt (length a) (length b)) s t (λ e. grind (arith, nat_tests)) (λ e. grind (arith, nat_tests))

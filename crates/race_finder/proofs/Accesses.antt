@@ -1,5 +1,6 @@
 -- One more access in what a finder knows.
-use Rattle.std.proofs.Common.{◌≡◌, ℕ, ◌+◌, ◌<◌, ◌≤◌, ◌^◌, List, [], ◌∷◌, ◌++◌, length, reverse, set, inl, inr, subst, ap, sym, ◌∙◌, arith, option_to_list, slice_get, length-append}
+use Rattle.std.proofs.Common.{◌≡◌, ℕ, ◌+◌, ◌<◌, ◌≤◌, ◌^◌, List, [], ◌∷◌, ◌++◌, length, reverse, set, inl, inr, subst, ap, sym, ◌∙◌, arith, option_to_list}
+use Rattle.std.proofs.Common.{slice_get, length-append}
 use Rattle.std.specs.Prelude.{Option, Some, None}
 use Rattle.std.proofs.lemmas.List.{append-nil, length-set}
 use Rattle.fut_base.specs.declared.event.Event.{Event}
@@ -30,32 +31,44 @@ use Rattle.race_finder.proofs.Lists.{set_get, push_get}
 use Rattle.race_finder.proofs.Next.{touched, untouched, structure_same, standing, current_of, last_in, kind_else, kind_plain}
 
 -- the items of lists that are the orders are the strands
-pub strands_in : (s : List Event) (english hebrew : List ℕ) → IsSound s → AreOrders s english hebrew → (length english ≡ next_strand (reverse s)) × (length hebrew ≡ next_strand (reverse s))
+pub strands_in : (s : List Event) (english hebrew : List ℕ) → IsSound s → AreOrders s english hebrew
+    → (length english ≡ next_strand (reverse s)) × (length hebrew ≡ next_strand (reverse s))
 strands_in s english hebrew sound o =
     let k = orders_have_strands (reverse s) sound in
     (ap (length {A = ℕ}) o.english_is ∙ k.0, ap (length {A = ℕ}) o.hebrew_is ∙ k.1)
 
-pub strand_known : (s : List Event) (english hebrew : List ℕ) → IsSound s → AreOrders s english hebrew → (v : Strand) → IsStrandOf s v → v.number < length english
+pub strand_known : (s : List Event) (english hebrew : List ℕ) → IsSound s → AreOrders s english hebrew → (v : Strand) → IsStrandOf s v
+    → v.number < length english
 strand_known s english hebrew sound o v of = let k = strands_in s english hebrew sound o in omega (arith, k.0, of.there)
 
-pub view_of : (s : List Event) (english hebrew : List ℕ) (t : ℕ) (d : Doer) → IsSound s → AreOrders s english hebrew → IsDoerOf s t d → IsViewOf s d.reach d.at (length english) english hebrew
+pub view_of : (s : List Event) (english hebrew : List ℕ) (t : ℕ) (d : Doer) → IsSound s → AreOrders s english hebrew → IsDoerOf s t d
+    → IsViewOf s d.reach d.at (length english) english hebrew
 view_of s english hebrew t d sound o of =
     record {
       sound = sound;
       here = of.strand;
       table_is = of.table;
-      orders = orders_stay s [] (length english) english hebrew (subst IsSound (sym (append-nil s)) sound) (subst (λ l. AreOrders l english hebrew) (sym (append-nil s)) o);
+      orders = orders_stay s [] (length english) english hebrew (subst IsSound (sym (append-nil s)) sound)
+          (subst (λ l. AreOrders l english hebrew) (sym (append-nil s)) o);
     }
 
-pub doer_known : (s : List Event) (english hebrew : List ℕ) (t : ℕ) (d : Doer) → IsSound s → AreOrders s english hebrew → IsDoerOf s t d → (d.at.number < length english) × AllKnown (length english) d.reach
-doer_known s english hebrew t d sound o of = (strand_known s english hebrew sound o d.at of.strand, λ w there. strand_known s english hebrew sound o w (of.table.homes w there))
+pub doer_known : (s : List Event) (english hebrew : List ℕ) (t : ℕ) (d : Doer) → IsSound s → AreOrders s english hebrew → IsDoerOf s t d
+    → (d.at.number < length english) × AllKnown (length english) d.reach
+doer_known s english hebrew t d sound o of = (
+  strand_known s english hebrew sound o d.at of.strand,
+  λ w there. strand_known s english hebrew sound
+      o w (of.table.homes w there),
+)
 
-writer_known : (s : List Event) (english hebrew : List ℕ) → IsSound s → AreOrders s english hebrew → (past : List (Touch Kind)) (o : Option Access) → IsWriter s past o → (a : Access) → Among a (option_to_list o) → a.strand.number < length english
+writer_known : (s : List Event) (english hebrew : List ℕ) → IsSound s → AreOrders s english hebrew → (past : List (Touch Kind)) (o : Option Access)
+    → IsWriter s past o → (a : Access) → Among a (option_to_list o) → a.strand.number < length english
 writer_known s english hebrew sound o past None w a there = absurd there
-writer_known s english hebrew sound o past (Some x) w a (inl e) = strand_known s english hebrew sound o a.strand (subst (λ (z : Access). IsStrandOf s z.strand) e w.2.strand_of)
+writer_known s english hebrew sound o past (Some x) w a (inl e) = strand_known s english hebrew sound o a.strand
+    (subst (λ (z : Access). IsStrandOf s z.strand) e w.2.strand_of)
 writer_known s english hebrew sound o past (Some x) w a (inr z) = absurd z
 
-pub kept_known : (s : List Event) (english hebrew : List ℕ) → IsSound s → AreOrders s english hebrew → (past : List (Touch Kind)) (kept : Kept) → IsKept s past kept → AreKnown (length english) kept
+pub kept_known : (s : List Event) (english hebrew : List ℕ) → IsSound s → AreOrders s english hebrew → (past : List (Touch Kind)) (kept : Kept)
+    → IsKept s past kept → AreKnown (length english) kept
 kept_known s english hebrew sound o past (Found i j) k = tt
 kept_known s english hebrew sound o past (Clean writer readers) k = λ a there. elim (among_or a (option_to_list writer) readers.items there) [
   | inl h ↦ writer_known s english hebrew sound o past writer k.1 a h
@@ -64,7 +77,8 @@ kept_known s english hebrew sound o past (Clean writer readers) k = λ a there. 
 
 -- what is kept with the access that an event is
 pub kept_next : (h : List Event) (e : Event) (c : ℕ) (kind : Kind) (d : Doer) (english hebrew : List ℕ) (place : ℕ) (old new : Logged)
-    → IsInStep h → IsInStep (h ++ e ∷ []) → kind_of c e.action ≡ Some kind → AreOrders (structure_of h) english hebrew → IsDoerOf (structure_of h) e.task d → place ≡ length h
+    → IsInStep h → IsInStep (h ++ e ∷ []) → kind_of c e.action ≡ Some kind → AreOrders (structure_of h) english hebrew → IsDoerOf (structure_of h) e.task d
+    → place ≡ length h
     → KeepsOneMore d.reach d.at place kind (length english) english hebrew old new
     → IsLogOf (structure_of h) (touches_of c h) old → IsLogOf (structure_of (h ++ e ∷ [])) (touches_of c (h ++ e ∷ [])) new
 kept_next h e c kind d english hebrew place old new before steps is o of place_is keeps k =
@@ -90,19 +104,22 @@ pub logs_push : (h : List Event) (logs : List Logged) (l : Logged) → ((s : Lis
 logs_push h logs l empty a =
     record {
       each = λ c k is. elim (push_get logs l c k is) [
-        | inl n ↦ subst (λ (x : Logged). IsLogOf (structure_of h) (touches_of c h) x) n.1 (subst (λ p. IsLogOf (structure_of h) p l) (sym (a.rest c (omega (arith, n.0)))) (empty (structure_of h)))
+        | inl n ↦ subst (λ (x : Logged). IsLogOf (structure_of h) (touches_of c h) x) n.1
+            (subst (λ p. IsLogOf (structure_of h) p l) (sym (a.rest c (omega (arith, n.0)))) (empty (structure_of h)))
         | inr o ↦ a.each c k o.1
       ];
       rest = λ c le. a.rest c (let n = length-append logs (l ∷ []) in omega (arith, n, le));
     }
 
 -- the logs of a history with one more access
-pub logs_next : (h : List Event) (e : Event) (c : ℕ) (kind : Kind) (logs : List Logged) (new : Logged) → kind_of c e.action ≡ Some kind → c < length logs → AreLogsOf h logs
+pub logs_next : (h : List Event) (e : Event) (c : ℕ) (kind : Kind) (logs : List Logged) (new : Logged) → kind_of c e.action ≡ Some kind → c < length logs
+    → AreLogsOf h logs
     → IsLogOf (structure_of (h ++ e ∷ [])) (touches_of c (h ++ e ∷ [])) new → AreLogsOf (h ++ e ∷ []) (set logs c new)
 logs_next h e c kind logs new is lt a k =
     record {
       each = λ d l at. elim (set_get logs c d new l at) [
-        | inl n ↦ subst (λ (x : Logged). IsLogOf (structure_of (h ++ e ∷ [])) (touches_of d (h ++ e ∷ [])) x) n.1 (subst (λ q. IsLogOf (structure_of (h ++ e ∷ [])) (touches_of q (h ++ e ∷ [])) new) (sym n.0) k)
+        | inl n ↦ subst (λ (x : Logged). IsLogOf (structure_of (h ++ e ∷ [])) (touches_of d (h ++ e ∷ [])) x) n.1
+            (subst (λ q. IsLogOf (structure_of (h ++ e ∷ [])) (touches_of q (h ++ e ∷ [])) new) (sym n.0) k)
         | inr o ↦
             subst (λ s. IsLogOf s (touches_of d (h ++ e ∷ [])) l) (sym (structure_same h e (kind_plain e.action c kind is)))
             (subst (λ p. IsLogOf (structure_of h) p l) (sym (untouched h e d (kind_else e.action c d kind is o.0))) (a.each d l o.1))
@@ -113,19 +130,23 @@ logs_next h e c kind logs new is lt a k =
     }
 
 -- a log whose room alone is another
-pub logs_same : (h : List Event) (logs : List Logged) (c : ℕ) (old new : Logged) → slice_get logs c ≡ Some old → new.kept ≡ old.kept → new.rise ≡ old.rise → AreLogsOf h logs → AreLogsOf h (set logs c new)
+pub logs_same : (h : List Event) (logs : List Logged) (c : ℕ) (old new : Logged) → slice_get logs c ≡ Some old → new.kept ≡ old.kept → new.rise ≡ old.rise
+    → AreLogsOf h logs → AreLogsOf h (set logs c new)
 logs_same h logs c old new is same level a =
     record {
       each = λ d l at. elim (set_get logs c d new l at) [
-        | inl n ↦ subst (λ (x : Logged). IsLogOf (structure_of h) (touches_of d h) x) n.1 (subst (λ q. IsLogOf (structure_of h) (touches_of q h) new) (sym n.0) (log_same (structure_of h) (touches_of c h) old new same level (a.each c old is)))
+        | inl n ↦ subst (λ (x : Logged). IsLogOf (structure_of h) (touches_of d h) x) n.1
+            (subst (λ q. IsLogOf (structure_of h) (touches_of q h) new) (sym n.0)
+            (log_same (structure_of h) (touches_of c h) old new same level (a.each c old is)))
         | inr o ↦ a.each d l o.1
       ];
       rest = λ d le. a.rest d (let n = length-set logs c new in omega (arith, n, le));
     }
 
 -- all that is known with one more access
-pub knows_access : (h : List Event) (e : Event) (c : ℕ) (kind : Kind) (english hebrew english' hebrew' : List ℕ) (doers : List Doer) (logs logs' : List Logged) (count count' : ℕ)
-    → IsInStep (h ++ e ∷ []) → kind_of c e.action ≡ Some kind → Knows h english hebrew doers logs count → english' ≡ english → hebrew' ≡ hebrew
+pub knows_access : (h : List Event) (e : Event) (c : ℕ) (kind : Kind) (english hebrew english' hebrew' : List ℕ) (doers : List Doer)
+    (logs logs' : List Logged) (count count' : ℕ) → IsInStep (h ++ e ∷ []) → kind_of c e.action ≡ Some kind → Knows h english hebrew doers logs count
+    → english' ≡ english → hebrew' ≡ hebrew
     → AreLogsOf (h ++ e ∷ []) logs' → length logs' ≤ 2 ^ 32 → count' ≡ count + 1 → Knows (h ++ e ∷ []) english' hebrew' doers logs' count'
 knows_access h e c kind english hebrew english' hebrew' doers logs logs' count count' steps is k en he cells few counted =
     let same = structure_same h e (kind_plain e.action c kind is) in
@@ -139,37 +160,51 @@ knows_access h e c kind english hebrew english' hebrew' doers logs logs' count c
     }
 
 -- the task of an event that may come next is there
-pub task_in : (h : List Event) (e : Event) (english hebrew : List ℕ) (doers : List Doer) (logs : List Logged) (count task : ℕ) → Knows h english hebrew doers logs count → IsInStep (h ++ e ∷ []) → e.task ≡ task → task < length doers
+pub task_in : (h : List Event) (e : Event) (english hebrew : List ℕ) (doers : List Doer) (logs : List Logged) (count task : ℕ)
+    → Knows h english hebrew doers logs count → IsInStep (h ++ e ∷ []) → e.task ≡ task → task < length doers
 task_in h e english hebrew doers logs count task k steps is =
     let stand = standing h e steps in
     let lt = ((linked (reverse (structure_of h)) k.steps.sound).cur e.task e.strand (current_of h e.task ∙ stand.stands)).0 in
     omega (arith, lt, is, k.tasks.count)
 
-pub doer_of : (h : List Event) (english hebrew : List ℕ) (doers : List Doer) (logs : List Logged) (count task : ℕ) (d : Doer) → Knows h english hebrew doers logs count → slice_get doers task ≡ Some d
+pub doer_of : (h : List Event) (english hebrew : List ℕ) (doers : List Doer) (logs : List Logged) (count task : ℕ) (d : Doer)
+    → Knows h english hebrew doers logs count → slice_get doers task ≡ Some d
     → (d.at.number < length english) × AllKnown (length english) d.reach
 doer_of h english hebrew doers logs count task d k at = doer_known (structure_of h) english hebrew task d k.steps.sound k.orders (k.tasks.each task d at)
 
 -- what stays known where logs are added and given room
-pub knows_logs : (h : List Event) (english hebrew : List ℕ) (doers : List Doer) (logs logs' : List Logged) (count : ℕ) → Knows h english hebrew doers logs count → AreLogsOf h logs' → length logs' ≤ 2 ^ 32 → Knows h english hebrew doers logs' count
-knows_logs h english hebrew doers logs logs' count k cells few = record { steps = k.steps; orders = k.orders; tasks = k.tasks; cells = cells; few = few; length_is = k.length_is }
+pub knows_logs : (h : List Event) (english hebrew : List ℕ) (doers : List Doer) (logs logs' : List Logged) (count : ℕ) → Knows h english hebrew doers logs count
+    → AreLogsOf h logs' → length logs' ≤ 2 ^ 32 → Knows h english hebrew doers logs' count
+knows_logs h english hebrew doers logs logs' count k cells few = record {
+  steps = k.steps;
+  orders = k.orders;
+  tasks = k.tasks;
+  cells = cells;
+  few = few;
+  length_is = k.length_is;
+}
 
 -- a cell's log in a list that was made longer and given room
 module _ (h : List Event) (english hebrew : List ℕ) (doers : List Doer) (logs grown : List Logged) (count cell : ℕ) (old room : Logged)
     (k : Knows h english hebrew doers logs count) (cells : AreLogsOf h grown) (few : length grown ≤ 2 ^ 32)
     (at : slice_get grown cell ≡ Some old) (same : room.kept ≡ old.kept) (level : room.rise ≡ old.rise) where
   pub knows_room : Knows h english hebrew doers (set grown cell room) count
-  knows_room = knows_logs h english hebrew doers logs (set grown cell room) count k (logs_same h grown cell old room at same level cells) (let n = length-set grown cell room in omega (arith, n, few))
+  knows_room = knows_logs h english hebrew doers logs (set grown cell room) count k (logs_same h grown cell old room at same level cells)
+      (let n = length-set grown cell room in omega (arith, n, few))
 
   pub room_known : (l : Logged) → slice_get (set grown cell room) cell ≡ Some l → AreKnown (length english) l.kept
   room_known l is = kept_known (structure_of h) english hebrew k.steps.sound k.orders (touches_of cell h) l.kept (knows_room.cells.each cell l is).kept
 
-  pub access_taken : (e : Event) (kind : Kind) (task : ℕ) (d : Doer) (l new : Logged) (english' hebrew' : List ℕ) (count' : ℕ) → IsInStep (h ++ e ∷ []) → e.task ≡ task → kind_of cell e.action ≡ Some kind
-      → slice_get doers task ≡ Some d → cell < length grown → slice_get (set grown cell room) cell ≡ Some l → KeepsOneMore d.reach d.at count kind (length english) english hebrew l new
+  pub access_taken : (e : Event) (kind : Kind) (task : ℕ) (d : Doer) (l new : Logged) (english' hebrew' : List ℕ) (count' : ℕ) → IsInStep (h ++ e ∷ [])
+      → e.task ≡ task → kind_of cell e.action ≡ Some kind
+      → slice_get doers task ≡ Some d → cell < length grown → slice_get (set grown cell room) cell ≡ Some l
+      → KeepsOneMore d.reach d.at count kind (length english) english hebrew l new
       → english' ≡ english → hebrew' ≡ hebrew → count' ≡ count + 1 → Knows (h ++ e ∷ []) english' hebrew' doers (set (set grown cell room) cell new) count'
   access_taken e kind task d l new english' hebrew' count' steps task_is kind_is d_at there l_at keeps en he counted =
       let n = length-set grown cell room in
       let m = length-set (set grown cell room) cell new in
       let of : IsDoerOf (structure_of h) e.task d = subst (λ t. IsDoerOf (structure_of h) t d) (sym task_is) (k.tasks.each task d d_at) in
       let kept = kept_next h e cell kind d english hebrew count l new k.steps steps kind_is k.orders of k.length_is keeps (knows_room.cells.each cell l l_at) in
-      knows_access h e cell kind english hebrew english' hebrew' doers (set grown cell room) (set (set grown cell room) cell new) count count' steps kind_is knows_room en he
+      knows_access h e cell kind english hebrew english' hebrew' doers (set grown cell room) (set (set grown cell room) cell new) count count'
+      steps kind_is knows_room en he
       (logs_next h e cell kind (set grown cell room) new kind_is (omega (arith, n, there)) knows_room.cells kept) (omega (arith, n, m, few)) counted

@@ -1,5 +1,7 @@
 -- The tables of strands after gets and syncs.
-use Rattle.std.proofs.Common.{◌≡◌, ℕ, zero, suc, ◌+◌, ◌<◌, Bool, true, false, true≢false, List, [], ◌∷◌, ◌++◌, length, reverse, get_or, take, inl, inr, subst, ap, sym, refl, ◌∙◌, arith, slice_get}
+use Rattle.std.proofs.Common.{◌≡◌, ℕ, zero, suc, ◌+◌, ◌<◌, Bool, true, false, true≢false, List, [], ◌∷◌, ◌++◌, length, reverse, get_or, take, inl, inr, subst}
+use Rattle.std.proofs.lemmas.Option.{none-some, same_Some}
+use Rattle.std.proofs.Common.{ap, sym, refl, ◌∙◌, arith, slice_get}
 use Rattle.std.specs.Prelude.{Option, Some, None, IsSome}
 use Rattle.std.specs.List.{cons_option}
 use Rattle.std.proofs.Math.Seq.{take-suc}
@@ -70,7 +72,8 @@ module _ (s : List Event) (places : Placed) (doers : List Doer) (lists : Lists) 
   pub two_known : (t u : ℕ) (d o : Doer) → slice_get doers t ≡ Some d → slice_get doers u ≡ Some o → AllKnown known (together d.reach o.reach (Some o.at))
   two_known t u d o at ot w there = all_together known d.reach o.reach o.at (all_known t d at).1 (all_known u o ot).1 (all_known u o ot).0 w there
 
-  pub merged_known : (own : ℕ) (strands : List ℕ) (reach : List Strand) (u : ℕ) (o : Doer) → IsMergedOf s own strands reach → slice_get doers u ≡ Some o → AllKnown known (together reach o.reach None)
+  pub merged_known : (own : ℕ) (strands : List ℕ) (reach : List Strand) (u : ℕ) (o : Doer) → IsMergedOf s own strands reach → slice_get doers u ≡ Some o
+      → AllKnown known (together reach o.reach None)
   merged_known own strands reach u o m ot w there = elim (among_or w (reach ++ o.reach) [] there) [
     | inl k ↦ elim (among_or w reach o.reach k) [
       | inl i ↦ strand_known s lists.english.order lists.hebrew.order of.sound orders w (m.homes w i)
@@ -79,21 +82,25 @@ module _ (s : List Event) (places : Placed) (doers : List Doer) (lists : Lists) 
     | inr k ↦ absurd k
   ]
 
-  pub got_table : (task future : ℕ) (d o : Doer) (table : List Strand) (value : Value) (strand : ℕ) → slice_get doers task ≡ Some d → slice_get doers future ≡ Some o
-      → AfterGet lists d.at.future d.reach o.reach (Some o.at) table → IsSound (and_then s task d.at.number (Gets future value strand)) → HasTable (and_then s task d.at.number (Gets future value strand)) strand table
+  pub got_table : (task future : ℕ) (d o : Doer) (table : List Strand) (value : Value) (strand : ℕ) → slice_get doers task ≡ Some d
+      → slice_get doers future ≡ Some o
+      → AfterGet lists d.at.future d.reach o.reach (Some o.at) table → IsSound (and_then s task d.at.number (Gets future value strand))
+      → HasTable (and_then s task d.at.number (Gets future value strand)) strand table
   got_table task future d o table value strand at ot after sound =
       let past = reverse s in
       let dd = of.tasks.each task d at in
       let oo = of.tasks.each future o ot in
       let acts = (followed s (record { task = task; strand = d.at.number; action = Gets future value strand }) sound).1.acts in
       let ended = value_ended past of.sound future value acts.1 in
-      let last : last_of past future ≡ Some o.at.number = oo.last_is ∙ ended_last o.ended o.at.number (frame past future).cur (sym oo.last_is ∙ last_some past of.sound future ended) in
+      let last : last_of past future ≡ Some o.at.number = oo.last_is ∙ ended_last o.ended o.at.number (frame past future).cur (sym oo.last_is
+      ∙ last_some past of.sound future ended) in
       after s task future strand value d.at o.at sound dd.strand refl dd.table oo.strand refl last oo.table (agree task d at)
 
   lasts_more : (past : List Event) (ts : List ℕ) (t v : ℕ) → last_of past t ≡ Some v → lasts_of past (ts ++ t ∷ []) ≡ lasts_of past ts ++ v ∷ []
   lasts_more past ts t v is = filter_map-append (λ u. last_of past u) ts (t ∷ []) ∙ ap (λ o. lasts_of past ts ++ cons_option o []) is
 
-  pub merged_more : (task i child : ℕ) (d o : Doer) (reach reach' : List Strand) → slice_get doers task ≡ Some d → slice_get doers child ≡ Some o → i < length d.block.items → child ≡ get_or d.block.items i 0 → IsSome (last_of (reverse s) child)
+  pub merged_more : (task i child : ℕ) (d o : Doer) (reach reach' : List Strand) → slice_get doers task ≡ Some d → slice_get doers child ≡ Some o
+      → i < length d.block.items → child ≡ get_or d.block.items i 0 → IsSome (last_of (reverse s) child)
       → MergesOneMore lists d.at.future reach o.reach None reach' → IsMergedOf s d.at.future (d.at.number ∷ lasts_of (reverse s) (take i d.block.items)) reach
       → IsMergedOf s d.at.future (d.at.number ∷ lasts_of (reverse s) (take (i + 1) d.block.items)) reach'
   merged_more task i child d o reach reach' at ot lt child_is some more m =
@@ -102,7 +109,8 @@ module _ (s : List Event) (places : Placed) (doers : List Doer) (lists : Lists) 
       let oo = of.tasks.each child o ot in
       let last : last_of past child ≡ Some o.at.number = ended_some (last_of past child) some oo.last_is in
       let up : suc i ≡ i + 1 = omega arith in
-      let longer : take (i + 1) block ≡ take i block ++ child ∷ [] = ap (λ n. take n block) (sym up) ∙ take-suc block i 0 lt ∙ ap (λ c. take i block ++ c ∷ []) (sym child_is) in
+      let longer : take (i + 1) block ≡ take i block ++ child ∷ [] = ap (λ n. take n block) (sym up) ∙ take-suc block i 0 lt ∙ ap (λ c. take i
+      block ++ c ∷ []) (sym child_is) in
       let all : d.at.number ∷ lasts_of past (take (i + 1) block) ≡ (d.at.number ∷ lasts_of past (take i block)) ++ o.at.number ∷ [] =
       ap (λ l. d.at.number ∷ lasts_of past l) longer ∙ ap (λ l. d.at.number ∷ l) (lasts_more past (take i block) child o.at.number last) in
       subst (λ l. IsMergedOf s d.at.future l reach') (sym all)
@@ -113,7 +121,8 @@ module _ (s : List Event) (places : Placed) (doers : List Doer) (lists : Lists) 
       ended_some (Some x) h is = is ∙ ended_last o.ended o.at.number x (sym is)
 
 -- nothing is merged yet
-pub merged_none : (s : List Event) (places : Placed) (doers : List Doer) (task : ℕ) (d : Doer) (reach : List Strand) → reach ≡ d.reach → MaySync s places doers task → slice_get doers task ≡ Some d
+pub merged_none : (s : List Event) (places : Placed) (doers : List Doer) (task : ℕ) (d : Doer) (reach : List Strand) → reach ≡ d.reach
+    → MaySync s places doers task → slice_get doers task ≡ Some d
     → IsMergedOf s d.at.future (d.at.number ∷ lasts_of (reverse s) (take 0 d.block.items)) reach
 merged_none s places doers task d reach is may at =
     let of = may.of.tasks.each task d at in
@@ -130,7 +139,8 @@ child_ended past [] i h lt = absurd (omega (arith, lt))
 child_ended past (t ∷ ts) zero h lt = h.0
 child_ended past (t ∷ ts) (suc i) h lt = child_ended past ts i h.1 (omega (arith, lt))
 
-pub block_child : (s : List Event) (places : Placed) (doers : List Doer) (task : ℕ) (d : Doer) (i child : ℕ) → MaySync s places doers task → slice_get doers task ≡ Some d → i < length d.block.items → child ≡ get_or d.block.items i 0
+pub block_child : (s : List Event) (places : Placed) (doers : List Doer) (task : ℕ) (d : Doer) (i child : ℕ) → MaySync s places doers task
+    → slice_get doers task ≡ Some d → i < length d.block.items → child ≡ get_or d.block.items i 0
     → IsSome (last_of (reverse s) child) × (child < length doers)
 block_child s places doers task d i child may at lt is =
     let of = may.of.tasks.each task d at in
@@ -139,34 +149,32 @@ block_child s places doers task d i child may at lt is =
     let there = last_there (reverse s) may.of.sound child some in
     (some, omega (arith, there, may.of.tasks.count))
 
-pub block_at : (s : List Event) (places : Placed) (doers : List Doer) (task : ℕ) (d : Doer) (i child : ℕ) → MaySync s places doers task → slice_get doers task ≡ Some d → slice_get d.block.items i ≡ Some child
+pub block_at : (s : List Event) (places : Placed) (doers : List Doer) (task : ℕ) (d : Doer) (i child : ℕ) → MaySync s places doers task
+    → slice_get doers task ≡ Some d → slice_get d.block.items i ≡ Some child
     → IsSome (last_of (reverse s) child) × (child < length doers)
 block_at s places doers task d i child may at is =
     block_child s places doers task d i child may at (slice_get_within d.block.items i child is) (sym (get_or_from_slice_get d.block.items i child 0 is))
 
-pub child_last : (s : List Event) (places : Placed) (doers : List Doer) (child : ℕ) (o : Doer) → AreOf s places doers → slice_get doers child ≡ Some o → IsSome (last_of (reverse s) child) → last_of (reverse s) child ≡ Some o.at.number
+pub child_last : (s : List Event) (places : Placed) (doers : List Doer) (child : ℕ) (o : Doer) → AreOf s places doers → slice_get doers child ≡ Some o
+    → IsSome (last_of (reverse s) child) → last_of (reverse s) child ≡ Some o.at.number
 child_last s places doers child o of ot some = ended_some (last_of (reverse s) child) some (of.tasks.each child o ot).last_is
   where
     ended_some : (q : Option ℕ) → IsSome q → q ≡ last_if o.ended o.at.number → q ≡ Some o.at.number
     ended_some None h is = absurd (true≢false (sym h))
     ended_some (Some x) h is = is ∙ ended_last o.ended o.at.number x (sym is)
 
-pub doer_in : (s : List Event) (places : Placed) (doers : List Doer) (t : ℕ) (d : Doer) → AreOf s places doers → slice_get doers t ≡ Some d → IsIn d.at.number places.english places.hebrew
+pub doer_in : (s : List Event) (places : Placed) (doers : List Doer) (t : ℕ) (d : Doer) → AreOf s places doers → slice_get doers t ≡ Some d
+    → IsIn d.at.number places.english places.hebrew
 doer_in s places doers t d of at =
     let k = doer_known s places.english places.hebrew t d of.sound of.orders (of.tasks.each t d at) in
     let n = strands_in s places.english places.hebrew of.sound of.orders in
     record { first = k.0; second = omega (arith, k.0, n.0, n.1) }
 
 -- the last strand of a block's first child
-pub first_is : (past : List Event) (block : List ℕ) (child : ℕ) (v : Strand) → slice_get block 0 ≡ Some child → last_of past child ≡ Some v.number → IsLastOf past block (Some v)
-first_is past [] child v h is = none_some child h
-  where
-    none_some : (c : ℕ) → ◌≡◌ {A = Option ℕ} None (Some c) → ⊥
-    none_some c e = cc
-first_is past (x ∷ xs) child v h is = ap (last_of past) (same h) ∙ is
-  where
-    same : {a b : ℕ} → Some a ≡ Some b → a ≡ b
-    same {a} {b} e = cc
+pub first_is : (past : List Event) (block : List ℕ) (child : ℕ) (v : Strand) → slice_get block 0 ≡ Some child → last_of past child ≡ Some v.number
+    → IsLastOf past block (Some v)
+first_is past [] child v h is = none-some child h
+first_is past (x ∷ xs) child v h is = ap (last_of past) (same_Some x child h) ∙ is
 
 pub first_none : (past : List Event) (block : List ℕ) → slice_get block 0 ≡ None → IsLastOf past block None
 first_none past [] h = tt

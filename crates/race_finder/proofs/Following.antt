@@ -20,19 +20,24 @@ standing_before (e ∷ later) past h = standing_before later past h.0
 pub in_step_before : (h later : List Event) → IsInStep (h ++ later) → IsInStep h
 in_step_before h later steps =
     record {
-      sound = sound_before (reverse (structure_of later)) (reverse (structure_of h)) (subst IsSoundPast (reverse-append (structure_of h) (structure_of later)) (subst IsSound (filter-append by_structure h later) steps.sound));
+      sound = sound_before (reverse (structure_of later)) (reverse (structure_of h))
+          (subst IsSoundPast (reverse-append (structure_of h) (structure_of later)) (subst IsSound (filter-append by_structure h later) steps.sound));
       standing = standing_before (reverse later) (reverse h) (subst AreStanding (reverse-append h later) steps.standing);
     }
 
-pub taken_more : (xs : List Entry) (i : ℕ) (x : Entry) → i < length xs → x ≡ get_or xs i x → map event_of (take (i + 1) xs) ≡ map event_of (take i xs) ++ event_of x ∷ []
+pub taken_more : (xs : List Entry) (i : ℕ) (x : Entry) → i < length xs → x ≡ get_or xs i x
+    → map event_of (take (i + 1) xs) ≡ map event_of (take i xs) ++ event_of x ∷ []
 taken_more xs i x lt is =
     let up : suc i ≡ i + 1 = omega arith in
-    ap (λ n. map event_of (take n xs)) (sym up) ∙ ap (map event_of) (take-suc xs i x lt) ∙ map-append event_of (take i xs) (get_or xs i x ∷ []) ∙ ap (λ y. map event_of (take i xs) ++ event_of y ∷ []) (sym is)
+    ap (λ n. map event_of (take n xs)) (sym up) ∙ ap (map event_of) (take-suc xs i x lt) ∙ map-append event_of (take i xs) (get_or xs i x ∷ [])
+    ∙ ap (λ y. map event_of (take i xs) ++ event_of y ∷ []) (sym is)
 
-pub steps_to : (xs : List Entry) (i : ℕ) (x : Entry) → i < length xs → x ≡ get_or xs i x → IsInStep (map event_of xs) → IsInStep (map event_of (take i xs) ++ event_of x ∷ [])
+pub steps_to : (xs : List Entry) (i : ℕ) (x : Entry) → i < length xs → x ≡ get_or xs i x → IsInStep (map event_of xs)
+    → IsInStep (map event_of (take i xs) ++ event_of x ∷ [])
 steps_to xs i x lt is steps =
     subst IsInStep (taken_more xs i x lt is)
-    (in_step_before (map event_of (take (i + 1) xs)) (map event_of (drop (i + 1) xs)) (subst IsInStep (ap (map event_of) (sym (take-append-drop (i + 1) xs)) ∙ map-append event_of (take (i + 1) xs) (drop (i + 1) xs)) steps))
+    (in_step_before (map event_of (take (i + 1) xs)) (map event_of (drop (i + 1) xs))
+    (subst IsInStep (ap (map event_of) (sym (take-append-drop (i + 1) xs)) ∙ map-append event_of (take (i + 1) xs) (drop (i + 1) xs)) steps))
 
 pub taken_all : (xs : List Entry) (i : ℕ) → length xs ≤ i → map event_of (take i xs) ≡ map event_of xs
 taken_all xs i le = ap (map event_of) (take_all i xs le)

@@ -35,7 +35,8 @@ module _ (s : List Event) (task code child kid cont : ℕ) (args : List Value) (
     apart : child ≢ task
     apart q = absurd (let lt = acting_there s e sound in omega (arith, lt, q, child_is))
 
-    pub spawner : (at : Strand) (block : Listed ℕ) → at.number ≡ cont → IsStrandOf (s ++ e ∷ []) at → HasTable (s ++ e ∷ []) cont d.reach → block.items ≡ d.block.items ++ child ∷ []
+    pub spawner : (at : Strand) (block : Listed ℕ) → at.number ≡ cont → IsStrandOf (s ++ e ∷ []) at → HasTable (s ++ e ∷ []) cont d.reach
+        → block.items ≡ d.block.items ++ child ∷ []
         → IsDoerOf (s ++ e ∷ []) task (record { at = at; reach = d.reach; block = block; ended = d.ended })
     spawner at block at_is there table block_is =
         let past = reverse s in
@@ -43,11 +44,14 @@ module _ (s : List Event) (task code child kid cont : ℕ) (args : List Value) (
           stands = ap (λ l. current l task) (turned s e) ∙ if_self task (Some cont) _ ∙ ap Some (sym at_is);
           strand = there;
           table = subst (λ n. HasTable (s ++ e ∷ []) n d.reach) (sym at_is) table;
-          block_is = block_is ∙ ap (λ l. l ++ child ∷ []) of.block_is ∙ sym (ap (λ l. block_of l task) (turned s e) ∙ if_self task (block_of past task ++ child ∷ []) (block_of past task));
-          last_is = ap (λ l. last_of l task) (turned s e) ∙ if_none (task == task) (Some st) (last_of past task) ∙ of.last_is ∙ none_now d.ended d.at.number at.number (acting_runs s e sound d of);
+          block_is = block_is ∙ ap (λ l. l ++ child ∷ []) of.block_is
+              ∙ sym (ap (λ l. block_of l task) (turned s e) ∙ if_self task (block_of past task ++ child ∷ []) (block_of past task));
+          last_is = ap (λ l. last_of l task) (turned s e) ∙ if_none (task == task) (Some st) (last_of past task) ∙ of.last_is
+              ∙ none_now d.ended d.at.number at.number (acting_runs s e sound d of);
         }
 
-    pub spawned : (at : Strand) (table : List Strand) (block : Listed ℕ) → at.number ≡ kid → IsStrandOf (s ++ e ∷ []) at → HasTable (s ++ e ∷ []) kid table → block.items ≡ []
+    pub spawned : (at : Strand) (table : List Strand) (block : Listed ℕ) → at.number ≡ kid → IsStrandOf (s ++ e ∷ []) at → HasTable (s ++ e ∷ []) kid table
+        → block.items ≡ []
         → IsDoerOf (s ++ e ∷ []) child (record { at = at; reach = table; block = block; ended = false })
     spawned at table block at_is there table_is block_is =
         let past = reverse s in
@@ -56,7 +60,8 @@ module _ (s : List Event) (task code child kid cont : ℕ) (args : List Value) (
           strand = there;
           table = subst (λ n. HasTable (s ++ e ∷ []) n table) (sym at_is) table_is;
           block_is = block_is ∙ sym (ap (λ l. block_of l child) (turned s e) ∙ if_off child task _ _ apart ∙ ap (block_of past) child_is ∙ new_block s e sound);
-          last_is = ap (λ l. last_of l child) (turned s e) ∙ if_none (child == task) (Some st) (last_of past child) ∙ ap (last_of past) child_is ∙ new_last s e sound;
+          last_is = ap (λ l. last_of l child) (turned s e) ∙ if_none (child == task) (Some st) (last_of past child)
+              ∙ ap (last_of past) child_is ∙ new_last s e sound;
         }
 
   module _ (sound : IsSound (s ++ ev task st (Creates code child kid cont args) ∷ [])) where
@@ -78,10 +83,12 @@ module _ (s : List Event) (task code child kid cont : ℕ) (args : List Value) (
           strand = there;
           table = subst (λ n. HasTable (s ++ e' ∷ []) n d.reach) (sym at_is) table;
           block_is = of.block_is ∙ sym (ap (λ l. block_of l task) (turned s e') ∙ if_self task (block_of past task) (block_of past task));
-          last_is = ap (λ l. last_of l task) (turned s e') ∙ if_none (task == task) (Some st) (last_of past task) ∙ of.last_is ∙ none_now d.ended d.at.number at.number (acting_runs s e' sound d of);
+          last_is = ap (λ l. last_of l task) (turned s e') ∙ if_none (task == task) (Some st) (last_of past task) ∙ of.last_is
+              ∙ none_now d.ended d.at.number at.number (acting_runs s e' sound d of);
         }
 
-    pub created : (at : Strand) (table : List Strand) (block : Listed ℕ) → at.number ≡ kid → IsStrandOf (s ++ e' ∷ []) at → HasTable (s ++ e' ∷ []) kid table → block.items ≡ []
+    pub created : (at : Strand) (table : List Strand) (block : Listed ℕ) → at.number ≡ kid → IsStrandOf (s ++ e' ∷ []) at → HasTable (s ++ e' ∷ []) kid table
+        → block.items ≡ []
         → IsDoerOf (s ++ e' ∷ []) child (record { at = at; reach = table; block = block; ended = false })
     created at table block at_is there table_is block_is =
         let past = reverse s in
@@ -89,6 +96,8 @@ module _ (s : List Event) (task code child kid cont : ℕ) (args : List Value) (
           stands = ap (λ l. current l child) (turned s e') ∙ if_off child task _ _ apart' ∙ if_self child (Some kid) _ ∙ ap Some (sym at_is);
           strand = there;
           table = subst (λ n. HasTable (s ++ e' ∷ []) n table) (sym at_is) table_is;
-          block_is = block_is ∙ sym (ap (λ l. block_of l child) (turned s e') ∙ if_off child task _ _ apart' ∙ ap (block_of past) child_is' ∙ new_block s e' sound);
-          last_is = ap (λ l. last_of l child) (turned s e') ∙ if_none (child == task) (Some st) (last_of past child) ∙ ap (last_of past) child_is' ∙ new_last s e' sound;
+          block_is = block_is ∙ sym (ap (λ l. block_of l child) (turned s e') ∙ if_off child task _ _ apart'
+              ∙ ap (block_of past) child_is' ∙ new_block s e' sound);
+          last_is = ap (λ l. last_of l child) (turned s e') ∙ if_none (child == task) (Some st) (last_of past child)
+              ∙ ap (last_of past) child_is' ∙ new_last s e' sound;
         }

@@ -29,7 +29,8 @@ module _ (s : List Event) (task st strand : ℕ) (d : Doer) (of : IsDoerOf s tas
     abbrev e : Event
     e = ev task st (Gets future value strand)
 
-    pub getter : IsStrandOf (s ++ e ∷ []) at → HasTable (s ++ e ∷ []) strand table → IsDoerOf (s ++ e ∷ []) task (record { at = at; reach = table; block = d.block; ended = d.ended })
+    pub getter : IsStrandOf (s ++ e ∷ []) at → HasTable (s ++ e ∷ []) strand table
+        → IsDoerOf (s ++ e ∷ []) task (record { at = at; reach = table; block = d.block; ended = d.ended })
     getter there table_is =
         let past = reverse s in
         record {
@@ -37,14 +38,16 @@ module _ (s : List Event) (task st strand : ℕ) (d : Doer) (of : IsDoerOf s tas
           strand = there;
           table = subst (λ n. HasTable (s ++ e ∷ []) n table) (sym at_is) table_is;
           block_is = of.block_is ∙ sym (ap (λ l. block_of l task) (turned s e) ∙ if_self task (block_of past task) (block_of past task));
-          last_is = ap (λ l. last_of l task) (turned s e) ∙ if_none (task == task) (Some st) (last_of past task) ∙ of.last_is ∙ none_now d.ended d.at.number at.number (acting_runs s e sound d of);
+          last_is = ap (λ l. last_of l task) (turned s e) ∙ if_none (task == task) (Some st) (last_of past task) ∙ of.last_is
+              ∙ none_now d.ended d.at.number at.number (acting_runs s e sound d of);
         }
 
   module _ (sound : IsSound (s ++ ev task st (Syncs strand) ∷ [])) where
     abbrev e' : Event
     e' = ev task st (Syncs strand)
 
-    pub syncer : (block : Listed ℕ) → block.items ≡ [] → IsStrandOf (s ++ e' ∷ []) at → HasTable (s ++ e' ∷ []) strand table → IsDoerOf (s ++ e' ∷ []) task (record { at = at; reach = table; block = block; ended = d.ended })
+    pub syncer : (block : Listed ℕ) → block.items ≡ [] → IsStrandOf (s ++ e' ∷ []) at → HasTable (s ++ e' ∷ []) strand table
+        → IsDoerOf (s ++ e' ∷ []) task (record { at = at; reach = table; block = block; ended = d.ended })
     syncer block empty there table_is =
         let past = reverse s in
         record {
@@ -52,5 +55,6 @@ module _ (s : List Event) (task st strand : ℕ) (d : Doer) (of : IsDoerOf s tas
           strand = there;
           table = subst (λ n. HasTable (s ++ e' ∷ []) n table) (sym at_is) table_is;
           block_is = empty ∙ sym (ap (λ l. block_of l task) (turned s e') ∙ if_self task [] (block_of past task));
-          last_is = ap (λ l. last_of l task) (turned s e') ∙ if_none (task == task) (Some st) (last_of past task) ∙ of.last_is ∙ none_now d.ended d.at.number at.number (acting_runs s e' sound d of);
+          last_is = ap (λ l. last_of l task) (turned s e') ∙ if_none (task == task) (Some st) (last_of past task) ∙ of.last_is
+              ∙ none_now d.ended d.at.number at.number (acting_runs s e' sound d of);
         }

@@ -10,7 +10,8 @@ use Rattle.race_finder.specs.Finding.{Knows}
 use Rattle.race_finder.proofs.Accesses.{task_in, doer_of}
 use Rattle.race_finder.proofs.Taking.{places_few}
 
-module _ (h : List Event) (e : Event) (english hebrew : List ℕ) (doers : List Doer) (logs : List Logged) (count task : ℕ) (k : Knows h english hebrew doers logs count) (steps : IsInStep (h ++ e ∷ [])) (is : e.task ≡ task) where
+module _ (h : List Event) (e : Event) (english hebrew : List ℕ) (doers : List Doer) (logs : List Logged) (count task : ℕ)
+    (k : Knows h english hebrew doers logs count) (steps : IsInStep (h ++ e ∷ [])) (is : e.task ≡ task) where
   -- the acting task has a doer
   pub has_doer : task < length doers
   has_doer = task_in h e english hebrew doers logs count task k steps is

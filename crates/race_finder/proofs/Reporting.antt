@@ -1,5 +1,7 @@
 -- The report of the logs of all cells.
-use Rattle.std.proofs.Common.{◌≡◌, ℕ, true, suc, ◌+◌, ◌<◌, ◌≤◌, List, [], ◌∷◌, ◌++◌, length, get_or, inl, inr, subst, ap, sym, refl, ◌∙◌, arith, slice_get, length-append, Vec, Global}
+use Rattle.std.proofs.Common.{◌≡◌, ℕ, true, suc, ◌+◌, ◌<◌, ◌≤◌, List, [], ◌∷◌, ◌++◌, length, get_or, inl, inr, subst, ap, sym, refl, ◌∙◌, arith, slice_get}
+use Rattle.std.proofs.lemmas.Option.{same_Some}
+use Rattle.std.proofs.Common.{length-append, Vec, Global}
 use Rattle.std.specs.Prelude.{Option, Some, All, Any}
 use Rattle.std.proofs.Math.ListN.{get_or-append}
 use Rattle.std.proofs.lemmas.Bool.{cases_lt, cases_eq}
@@ -45,7 +47,8 @@ rising_push (x ∷ xs) y h below =
 any_more : (P : Race → Type 0) (xs : List Race) (y : Race) → Any P xs → Any P (xs ++ y ∷ [])
 any_more P xs y (k, x, lt, is, p) = (k, x, (let n = length-append xs (y ∷ []) in omega (arith, n, lt)), get_or-append xs (y ∷ []) x k lt ∙ is, p)
 
-pub report_found : (logs : List Logged) (i : ℕ) (races races' : List Race) (l : Logged) (r : Race) → slice_get logs i ≡ Some l → l.kept ≡ Found r.first r.second → r.cell ≡ i → races' ≡ races ++ r ∷ [] → IsReportUpTo logs i races → IsReportUpTo logs (i + 1) races'
+pub report_found : (logs : List Logged) (i : ℕ) (races races' : List Race) (l : Logged) (r : Race) → slice_get logs i ≡ Some l → l.kept ≡ Found r.first r.second
+    → r.cell ≡ i → races' ≡ races ++ r ∷ [] → IsReportUpTo logs i races → IsReportUpTo logs (i + 1) races'
 report_found logs i races races' l r at is cell_is is' up =
     subst (IsReportUpTo logs (i + 1)) (sym is') (record {
       each = All-push (IsOfLog logs) races r up.each (l, ap (slice_get logs) cell_is ∙ at, is);
@@ -60,16 +63,14 @@ report_found logs i races races' l r at is cell_is is' up =
 clean_found : (w : Option Access) (rs : Vec Access Global) (a b : ℕ) (k : Kept) → k ≡ Clean w rs → k ≡ Found a b → ⊥
 clean_found w rs a b k c f = cc
 
-same_log : (l m : Logged) → ◌≡◌ {A = Option Logged} (Some l) (Some m) → l ≡ m
-same_log l m e = cc
-
-pub report_clean : (logs : List Logged) (i : ℕ) (races : List Race) (l : Logged) (w : Option Access) (rs : Vec Access Global) → slice_get logs i ≡ Some l → l.kept ≡ Clean w rs → IsReportUpTo logs i races → IsReportUpTo logs (i + 1) races
+pub report_clean : (logs : List Logged) (i : ℕ) (races : List Race) (l : Logged) (w : Option Access) (rs : Vec Access Global) → slice_get logs i ≡ Some l
+    → l.kept ≡ Clean w rs → IsReportUpTo logs i races → IsReportUpTo logs (i + 1) races
 report_clean logs i races l w rs at is up =
     record {
       each = up.each;
       below = λ k d lt. (let b = up.below k d lt in omega (arith, b));
       whole = λ c m a b lt cm kept. elim (cases_eq c i) [
-        | inl e ↦ absurd (clean_found w rs a b l.kept is (ap (λ (x : Logged). x.kept) (same_log l m (sym at ∙ ap (slice_get logs) (sym e) ∙ cm)) ∙ kept))
+        | inl e ↦ absurd (clean_found w rs a b l.kept is (ap (λ (x : Logged). x.kept) (same_Some l m (sym at ∙ ap (slice_get logs) (sym e) ∙ cm)) ∙ kept))
         | inr ne ↦ up.whole c m a b (omega (arith, lt, ne)) cm kept
       ];
       order = up.order;
@@ -79,7 +80,8 @@ racing_found : (h : List Event) (c i j : ℕ) (kept : Kept) → TellsRaces h c k
 racing_found h c i j (Clean w rs) t r = absurd (t i j r)
 racing_found h c i j (Found a b) t r = (a, b, refl)
 
-pub report_done : (h : List Event) (logs : List Logged) (i : ℕ) (races : List Race) → length logs ≤ i → IsReportUpTo logs i races → AreLogsOf h logs → IsReport h races
+pub report_done : (h : List Event) (logs : List Logged) (i : ℕ) (races : List Race) → length logs ≤ i → IsReportUpTo logs i races → AreLogsOf h logs
+    → IsReport h races
 report_done h logs i races le up logs_of =
     record {
       each = All-weaker (IsOfLog logs) (λ r. IsFirstPair h r.cell r.first r.second)

@@ -1,5 +1,6 @@
 -- One more structural event in what a finder knows.
-use Rattle.std.proofs.Common.{◌≡◌, ◌≢◌, ℕ, ◌+◌, ◌<◌, Bool, true, false, List, [], ◌∷◌, ◌++◌, length, reverse, set, inl, inr, subst, ap, sym, refl, ◌∙◌, arith, slice_get, length-append, ◌&&◌, if◌then◌else◌}
+use Rattle.std.proofs.Common.{◌≡◌, ◌≢◌, ℕ, ◌+◌, ◌<◌, Bool, true, false, List, [], ◌∷◌, ◌++◌, length, reverse, set, inl, inr, subst, ap, sym, refl, ◌∙◌, arith}
+use Rattle.std.proofs.Common.{slice_get, length-append, ◌&&◌, if◌then◌else◌}
 use Rattle.std.specs.Prelude.{Option, Some, None}
 use Rattle.std.proofs.lemmas.List.{length-set}
 use Rattle.std.proofs.lemmas.Option.{slice_get_within}
@@ -59,7 +60,8 @@ module _ (s : List Event) (e : Event) (sound : IsSound (s ++ e ∷ [])) where
         last_is = ap (λ l. last_of l t) (turned s e) ∙ last_stays (reverse s) e t ne ∙ of.last_is;
       }
 
-  pub doers_acted : (doers : List Doer) (new : Doer) → tasks_by e.action ≡ 0 → AreDoersOf s doers → IsDoerOf (s ++ e ∷ []) e.task new → AreDoersOf (s ++ e ∷ []) (set doers e.task new)
+  pub doers_acted : (doers : List Doer) (new : Doer) → tasks_by e.action ≡ 0 → AreDoersOf s doers → IsDoerOf (s ++ e ∷ []) e.task new
+      → AreDoersOf (s ++ e ∷ []) (set doers e.task new)
   doers_acted doers new none a of =
       let n = length-set doers e.task new in
       let more : next_task (reverse (s ++ e ∷ [])) ≡ next_task (reverse s) + tasks_by e.action = ap next_task (turned s e) in
@@ -71,7 +73,8 @@ module _ (s : List Event) (e : Event) (sound : IsSound (s ++ e ∷ [])) where
         ];
       }
 
-  pub doers_forked : (doers : List Doer) (new kid : Doer) → tasks_by e.action ≡ 1 → AreDoersOf s doers → IsDoerOf (s ++ e ∷ []) e.task new → IsDoerOf (s ++ e ∷ []) (next_task (reverse s)) kid
+  pub doers_forked : (doers : List Doer) (new kid : Doer) → tasks_by e.action ≡ 1 → AreDoersOf s doers → IsDoerOf (s ++ e ∷ []) e.task new
+      → IsDoerOf (s ++ e ∷ []) (next_task (reverse s)) kid
       → AreDoersOf (s ++ e ∷ []) (set doers e.task new ++ kid ∷ [])
   doers_forked doers new kid one a of kid_of =
       let n = length-set doers e.task new in
@@ -127,8 +130,10 @@ module _ (h : List Event) (e : Event) (steps : IsInStep (h ++ e ∷ [])) (plain 
       }
 
   -- all that is known with one more structural event
-  pub knows_structural : (english hebrew english' hebrew' : List ℕ) (doers doers' : List Doer) (logs : List Logged) (count count' : ℕ) → Knows h english hebrew doers logs count
-      → AreOrders (structure_of h ++ e ∷ []) english' hebrew' → AreDoersOf (structure_of h ++ e ∷ []) doers' → count' ≡ count + 1 → Knows (h ++ e ∷ []) english' hebrew' doers' logs count'
+  pub knows_structural : (english hebrew english' hebrew' : List ℕ) (doers doers' : List Doer) (logs : List Logged) (count count' : ℕ)
+      → Knows h english hebrew doers logs count
+      → AreOrders (structure_of h ++ e ∷ []) english' hebrew' → AreDoersOf (structure_of h ++ e ∷ []) doers' → count' ≡ count + 1
+      → Knows (h ++ e ∷ []) english' hebrew' doers' logs count'
   knows_structural english hebrew english' hebrew' doers doers' logs count count' k orders tasks counted =
       record {
         steps = steps;
@@ -156,10 +161,12 @@ module _ (h : List Event) (t st : ℕ) (v : Value) (steps : IsInStep (h ++ ev t 
         strand = strand_stays s (e ∷ []) sound d.at of.strand;
         table = tables_stay s (e ∷ []) d.at.number d.reach sound of.strand.there of.table;
         block_is = of.block_is ∙ sym (ap (λ l. block_of l t) (turned s e) ∙ if_self t (block_of past t) (block_of past t));
-        last_is = ap (λ l. last_of l t) (turned s e) ∙ by_eq (λ b. (if b && true then Some st else last_of past t) ≡ Some d.at.number) t t (λ _. ap Some (sym (acting_at s e sound d of))) (λ ne. absurd (ne refl));
+        last_is = ap (λ l. last_of l t) (turned s e) ∙ by_eq (λ b. (if b && true then Some st else last_of past t) ≡ Some d.at.number) t t
+            (λ _. ap Some (sym (acting_at s e sound d of))) (λ ne. absurd (ne refl));
       }
 
-  pub knows_end : (english hebrew : List ℕ) (doers : List Doer) (logs : List Logged) (count count' : ℕ) (d : Doer) → Knows h english hebrew doers logs count → slice_get doers t ≡ Some d → count' ≡ count + 1
+  pub knows_end : (english hebrew : List ℕ) (doers : List Doer) (logs : List Logged) (count count' : ℕ) (d : Doer) → Knows h english hebrew doers logs count
+      → slice_get doers t ≡ Some d → count' ≡ count + 1
       → Knows (h ++ e ∷ []) english hebrew (set doers t (ended d)) logs count'
   knows_end english hebrew doers logs count count' d k at counted =
       let s = structure_of h in
@@ -169,10 +176,12 @@ module _ (h : List Event) (t st : ℕ) (v : Value) (steps : IsInStep (h ++ ev t 
 
 -- the same of any event by which a task ends
 pub end_taken : (h : List Event) (e : Event) (task : ℕ) (v : Value) → e.task ≡ task → e.action ≡ Ends v → IsInStep (h ++ e ∷ [])
-    → (english hebrew : List ℕ) (doers : List Doer) (logs : List Logged) (count count' : ℕ) (d : Doer) → Knows h english hebrew doers logs count → slice_get doers task ≡ Some d → count' ≡ count + 1
+    → (english hebrew : List ℕ) (doers : List Doer) (logs : List Logged) (count count' : ℕ) (d : Doer) → Knows h english hebrew doers logs count
+    → slice_get doers task ≡ Some d → count' ≡ count + 1
     → Knows (h ++ e ∷ []) english hebrew (set doers task (ended d)) logs count'
 end_taken h e task v task_is acts steps english hebrew doers logs count count' d k at counted =
     let E : Action → Event = λ a. ev e.task e.strand a in
     subst (λ a. Knows (h ++ E a ∷ []) english hebrew (set doers task (ended d)) logs count') (sym acts)
     (subst (λ t. Knows (h ++ E (Ends v) ∷ []) english hebrew (set doers t (ended d)) logs count') task_is
-    (knows_end h e.task e.strand v (subst (λ a. IsInStep (h ++ E a ∷ [])) acts steps) english hebrew doers logs count count' d k (subst (λ t. slice_get doers t ≡ Some d) (sym task_is) at) counted))
+    (knows_end h e.task e.strand v (subst (λ a. IsInStep (h ++ E a ∷ [])) acts steps) english hebrew doers logs count count' d k
+    (subst (λ t. slice_get doers t ≡ Some d) (sym task_is) at) counted))

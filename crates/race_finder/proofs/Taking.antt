@@ -1,5 +1,6 @@
 -- Structural events that come next.
-use Rattle.std.proofs.Common.{◌≡◌, ℕ, ◌+◌, ◌*◌, ◌≤◌, Bool, true, false, cond, List, [], ◌∷◌, ◌++◌, length, reverse, filter, set, inl, inr, subst, ap, sym, refl, ◌∙◌, arith, slice_get}
+use Rattle.std.proofs.Common.{◌≡◌, ℕ, ◌+◌, ◌*◌, ◌≤◌, Bool, true, false, cond, List, [], ◌∷◌, ◌++◌, length, reverse, filter, set, inl, inr, subst, ap, sym, refl}
+use Rattle.std.proofs.Common.{◌∙◌, arith, slice_get}
 use Rattle.std.specs.Prelude.{Option, Some}
 use Rattle.std.proofs.lemmas.List.{length-reverse, length-set}
 use Rattle.fut_base.specs.declared.event.Event.{Event}
@@ -17,9 +18,12 @@ use Rattle.reach_table.proofs.Events.{after_sync}
 use Rattle.access_shards.specs.Logged.{Logged}
 use Rattle.access_shards.specs.Histories.{IsInStep}
 use Rattle.race_finder.specs.declared.doer.Doer.{Doer}
+use Rattle.race_finder.specs.declared.forks.Fork.{Fork}
+use Rattle.race_finder.specs.declared.forks.Fork.TheVariants as fork
 use Rattle.race_finder.specs.Places.{Placed}
-use Rattle.race_finder.specs.Finding.{last_if, IsDoerOf, AreDoersOf, Knows, IsSpawnBy, IsCreateBy, IsGetBy, IsSyncBy}
-use Rattle.race_finder.specs.Acting.{AreForked, SpawnsOne, CreatesOne, AreJoined, GetsOne, SyncsOne, AreOf, MaySync, TableAfterGet, TableOfBlock, IsSameDoer}
+use Rattle.race_finder.specs.Finding.{last_if, IsDoerOf, AreDoersOf, Knows, IsSpawnBy, IsCreateBy, IsForkBy, IsGetBy, IsSyncBy}
+use Rattle.race_finder.specs.Acting.{AreForked, SpawnsOne, CreatesOne, ForksOne, AreJoined, GetsOne, SyncsOne, AreOf, MaySync, TableAfterGet, TableOfBlock}
+use Rattle.race_finder.specs.Acting.{IsSameDoer}
 use Rattle.race_finder.proofs.Lists.{set_get}
 use Rattle.access_shards.proofs.Histories.{by_structure}
 use Rattle.race_finder.proofs.Accesses.{strands_in}
@@ -43,7 +47,8 @@ few_strands : (past : List Event) → next_strand (filter by_structure past) ≤
 few_strands [] = omega arith
 few_strands (e ∷ past) = let k = few_next (by_structure e) e (filter by_structure past) (length past) (few_strands past) in omega (arith, k)
 
-pub places_few : (h : List Event) (english hebrew : List ℕ) (doers : List Doer) (logs : List Logged) (count : ℕ) → Knows h english hebrew doers logs count → (length english ≤ 1 + 2 * length h) × (length english ≡ length hebrew)
+pub places_few : (h : List Event) (english hebrew : List ℕ) (doers : List Doer) (logs : List Logged) (count : ℕ) → Knows h english hebrew doers logs count
+    → (length english ≤ 1 + 2 * length h) × (length english ≡ length hebrew)
 places_few h english hebrew doers logs count k =
     let n = strands_in (structure_of h) english hebrew k.steps.sound k.orders in
     let few = subst (λ l. next_strand l ≤ 1 + 2 * length (reverse h)) (sym (reverse_filter by_structure h)) (few_strands (reverse h)) in
@@ -54,7 +59,8 @@ ev_same : (e : Event) (t st : ℕ) (a : Action) → e.task ≡ t → e.strand �
 ev_same e t st a p q r = ap (λ x. ev x e.strand e.action) p ∙ ap (λ x. ev t x e.action) q ∙ ap (λ x. ev t st x) r
 
 -- a task of which the same is remembered
-pub same_known : (h : List Event) (english hebrew english' hebrew' : List ℕ) (doers : List Doer) (logs : List Logged) (count task : ℕ) (d d' : Doer) → Knows h english hebrew doers logs count → slice_get doers task ≡ Some d
+pub same_known : (h : List Event) (english hebrew english' hebrew' : List ℕ) (doers : List Doer) (logs : List Logged) (count task : ℕ) (d d' : Doer)
+    → Knows h english hebrew doers logs count → slice_get doers task ≡ Some d
     → IsSameDoer d d' → english' ≡ english → hebrew' ≡ hebrew → Knows h english' hebrew' (set doers task d') logs count
 same_known h english hebrew english' hebrew' doers logs count task d d' k at same en he =
     let s = structure_of h in
@@ -81,7 +87,13 @@ same_known h english hebrew english' hebrew' doers logs count task d d' k at sam
       length_is = k.length_is;
     }
 
-module _ (h : List Event) (e : Event) (steps : IsInStep (h ++ e ∷ [])) (english hebrew : List ℕ) (doers : List Doer) (logs : List Logged) (count : ℕ) (k : Knows h english hebrew doers logs count) where
+-- whose fork it is
+pub fork_task : (f : Fork) (task child : ℕ) (e : Event) → IsForkBy f task child e → e.task ≡ task
+fork_task fork.Spawn task child e p = p.task_is
+fork_task fork.Create task child e p = p.task_is
+
+module _ (h : List Event) (e : Event) (steps : IsInStep (h ++ e ∷ [])) (english hebrew : List ℕ) (doers : List Doer) (logs : List Logged) (count : ℕ)
+    (k : Knows h english hebrew doers logs count) where
   abbrev s : List Event
   s = structure_of h
 
@@ -95,15 +107,18 @@ module _ (h : List Event) (e : Event) (steps : IsInStep (h ++ e ∷ [])) (englis
     may : MayAct (reverse s) e.task a
     may = subst (MayAct (reverse s) e.task) acts (followed s e sound).1.acts
 
-    forked : (task child : ℕ) (places' : Placed) (d' kid : Doer) (count' : ℕ) → e.task ≡ task → tasks_by a ≡ 1 → child ≡ next_task (reverse s) → AreForked (s ++ e ∷ []) places' task child d' kid → count' ≡ count + 1
+    forked : (task child : ℕ) (places' : Placed) (d' kid : Doer) (count' : ℕ) → e.task ≡ task → tasks_by a ≡ 1 → child ≡ next_task (reverse s)
+        → AreForked (s ++ e ∷ []) places' task child d' kid → count' ≡ count + 1
         → Knows (h ++ e ∷ []) places'.english places'.hebrew (set doers task d' ++ kid ∷ []) logs count'
     forked task child places' d' kid count' task_is one child_is f counted =
         knows_structural h e steps plain_e english hebrew places'.english places'.hebrew doers (set doers task d' ++ kid ∷ []) logs count count' k f.orders
         (subst (λ t. AreDoersOf (s ++ e ∷ []) (set doers t d' ++ kid ∷ [])) task_is
-        (doers_forked s e sound doers d' kid (ap tasks_by acts ∙ one) k.tasks (subst (λ t. IsDoerOf (s ++ e ∷ []) t d') (sym task_is) f.acting) (subst (λ t. IsDoerOf (s ++ e ∷ []) t kid) child_is f.made)))
+        (doers_forked s e sound doers d' kid (ap tasks_by acts ∙ one) k.tasks (subst (λ t. IsDoerOf (s ++ e ∷ []) t d') (sym task_is) f.acting)
+        (subst (λ t. IsDoerOf (s ++ e ∷ []) t kid) child_is f.made)))
         counted
 
-    joined : (task : ℕ) (places' : Placed) (d' : Doer) (count' : ℕ) → e.task ≡ task → tasks_by a ≡ 0 → AreJoined (s ++ e ∷ []) places' task d' → count' ≡ count + 1
+    joined : (task : ℕ) (places' : Placed) (d' : Doer) (count' : ℕ) → e.task ≡ task → tasks_by a ≡ 0 → AreJoined (s ++ e ∷ []) places' task d'
+        → count' ≡ count + 1
         → Knows (h ++ e ∷ []) places'.english places'.hebrew (set doers task d') logs count'
     joined task places' d' count' task_is none j counted =
         knows_structural h e steps plain_e english hebrew places'.english places'.hebrew doers (set doers task d') logs count count' k j.orders
@@ -120,8 +135,10 @@ module _ (h : List Event) (e : Event) (steps : IsInStep (h ++ e ∷ [])) (englis
   first_new : length english ≡ next_strand (reverse s)
   first_new = (strands_in s english hebrew k.steps.sound k.orders).0
 
-  pub spawn_taken : (task child : ℕ) (places places' : Placed) (d d' kid : Doer) (doers' : List Doer) (count' : ℕ) → IsSpawnBy task child e → places.english ≡ english → places.hebrew ≡ hebrew → slice_get doers task ≡ Some d
-      → AreNext (length places.english) kid.at.number d'.at.number → SpawnsOne places d child places' d' kid → doers' ≡ set doers task d' ++ kid ∷ [] → count' ≡ count + 1
+  pub spawn_taken : (task child : ℕ) (places places' : Placed) (d d' kid : Doer) (doers' : List Doer) (count' : ℕ) → IsSpawnBy task child e
+      → places.english ≡ english → places.hebrew ≡ hebrew → slice_get doers task ≡ Some d
+      → AreNext (length places.english) kid.at.number d'.at.number → SpawnsOne places d child places' d' kid → doers' ≡ set doers task d' ++ kid ∷ []
+      → count' ≡ count + 1
       → Knows (h ++ e ∷ []) places'.english places'.hebrew doers' logs count'
   spawn_taken task child places places' d d' kid doers' count' p en he at numbers one doers_is counted =
       let code = p.acts.0 in
@@ -134,13 +151,20 @@ module _ (h : List Event) (e : Event) (steps : IsInStep (h ++ e ∷ [])) (englis
       let cont_is : p.acts.2 ≡ d'.at.number = omega (arith, m.1, m.2, n, len, numbers.cont_is) in
       let at_is = here a p.acts.4 refl task d p.task_is at in
       let same : e ≡ ev task d.at.number (Spawns code child kid.at.number d'.at.number args) =
-      ev_same e task d.at.number _ p.task_is at_is.0 (p.acts.4 ∙ ap (λ x. Spawns code child x p.acts.2 args) kid_is ∙ ap (λ x. Spawns code child kid.at.number x args) cont_is) in
-      let f = one s task code args (subst (λ x. IsSound (s ++ x ∷ [])) same (sound a p.acts.4 refl)) (record { english_is = en ∙ k.orders.english_is; hebrew_is = he ∙ k.orders.hebrew_is }) at_is.1 in
+      ev_same e task d.at.number _ p.task_is at_is.0 (p.acts.4 ∙ ap (λ x. Spawns code child x p.acts.2 args) kid_is
+      ∙ ap (λ x. Spawns code child kid.at.number x args) cont_is) in
+      let f = one s task code args (subst (λ x. IsSound (s ++ x ∷ [])) same (sound a p.acts.4 refl)) (record {
+        english_is = en ∙ k.orders.english_is;
+        hebrew_is = he ∙ k.orders.hebrew_is;
+      }) at_is.1 in
       subst (λ ds. Knows (h ++ e ∷ []) places'.english places'.hebrew ds logs count') (sym doers_is)
-      (forked a p.acts.4 refl task child places' d' kid count' p.task_is refl m.0 (subst (λ x. AreForked (s ++ x ∷ []) places' task child d' kid) (sym same) f) counted)
+      (forked a p.acts.4 refl task child places' d' kid count' p.task_is refl m.0
+      (subst (λ x. AreForked (s ++ x ∷ []) places' task child d' kid) (sym same) f) counted)
 
-  pub create_taken : (task child : ℕ) (places places' : Placed) (d d' kid : Doer) (doers' : List Doer) (count' : ℕ) → IsCreateBy task child e → places.english ≡ english → places.hebrew ≡ hebrew → slice_get doers task ≡ Some d
-      → AreNext (length places.english) kid.at.number d'.at.number → CreatesOne places d child places' d' kid → doers' ≡ set doers task d' ++ kid ∷ [] → count' ≡ count + 1
+  pub create_taken : (task child : ℕ) (places places' : Placed) (d d' kid : Doer) (doers' : List Doer) (count' : ℕ) → IsCreateBy task child e
+      → places.english ≡ english → places.hebrew ≡ hebrew → slice_get doers task ≡ Some d
+      → AreNext (length places.english) kid.at.number d'.at.number → CreatesOne places d child places' d' kid → doers' ≡ set doers task d' ++ kid ∷ []
+      → count' ≡ count + 1
       → Knows (h ++ e ∷ []) places'.english places'.hebrew doers' logs count'
   create_taken task child places places' d d' kid doers' count' p en he at numbers one doers_is counted =
       let code = p.acts.0 in
@@ -153,19 +177,36 @@ module _ (h : List Event) (e : Event) (steps : IsInStep (h ++ e ∷ [])) (englis
       let cont_is : p.acts.2 ≡ d'.at.number = omega (arith, m.1, m.2, n, len, numbers.cont_is) in
       let at_is = here a p.acts.4 refl task d p.task_is at in
       let same : e ≡ ev task d.at.number (Creates code child kid.at.number d'.at.number args) =
-      ev_same e task d.at.number _ p.task_is at_is.0 (p.acts.4 ∙ ap (λ x. Creates code child x p.acts.2 args) kid_is ∙ ap (λ x. Creates code child kid.at.number x args) cont_is) in
-      let f = one s task code args (subst (λ x. IsSound (s ++ x ∷ [])) same (sound a p.acts.4 refl)) (record { english_is = en ∙ k.orders.english_is; hebrew_is = he ∙ k.orders.hebrew_is }) at_is.1 in
+      ev_same e task d.at.number _ p.task_is at_is.0 (p.acts.4 ∙ ap (λ x. Creates code child x p.acts.2 args) kid_is
+      ∙ ap (λ x. Creates code child kid.at.number x args) cont_is) in
+      let f = one s task code args (subst (λ x. IsSound (s ++ x ∷ [])) same (sound a p.acts.4 refl)) (record {
+        english_is = en ∙ k.orders.english_is;
+        hebrew_is = he ∙ k.orders.hebrew_is;
+      }) at_is.1 in
       subst (λ ds. Knows (h ++ e ∷ []) places'.english places'.hebrew ds logs count') (sym doers_is)
-      (forked a p.acts.4 refl task child places' d' kid count' p.task_is refl m.0 (subst (λ x. AreForked (s ++ x ∷ []) places' task child d' kid) (sym same) f) counted)
+      (forked a p.acts.4 refl task child places' d' kid count' p.task_is refl m.0
+      (subst (λ x. AreForked (s ++ x ∷ []) places' task child d' kid) (sym same) f) counted)
+
+  pub fork_taken : (f : Fork) (task child : ℕ) (places places' : Placed) (d d' kid : Doer) (doers' : List Doer) (count' : ℕ) → IsForkBy f task child e
+      → places.english ≡ english → places.hebrew ≡ hebrew → slice_get doers task ≡ Some d
+      → AreNext (length places.english) kid.at.number d'.at.number → ForksOne f places d child places' d' kid → doers' ≡ set doers task d' ++ kid ∷ []
+      → count' ≡ count + 1 → Knows (h ++ e ∷ []) places'.english places'.hebrew doers' logs count'
+  fork_taken fork.Spawn = spawn_taken
+  fork_taken fork.Create = create_taken
 
   -- what is known of places in which there is room, and of all tasks
   pub known_of : (places : Placed) → places.english ≡ english → places.hebrew ≡ hebrew → AreOf s places doers
-  known_of places en he = record { sound = k.steps.sound; orders = record { english_is = en ∙ k.orders.english_is; hebrew_is = he ∙ k.orders.hebrew_is }; tasks = k.tasks }
+  known_of places en he = record {
+    sound = k.steps.sound;
+    orders = record { english_is = en ∙ k.orders.english_is; hebrew_is = he ∙ k.orders.hebrew_is };
+    tasks = k.tasks;
+  }
 
   pub value_known : (task future : ℕ) (p : IsGetBy task future e) → value_of (reverse s) future ≡ Some p.acts.0
   value_known task future p = (may (Gets future p.acts.0 p.acts.1) p.acts.2 refl).1
 
-  pub get_taken : (task future : ℕ) (places places' : Placed) (d d' : Doer) (table : List Strand) (count' : ℕ) → IsGetBy task future e → places.english ≡ english → places.hebrew ≡ hebrew → slice_get doers task ≡ Some d
+  pub get_taken : (task future : ℕ) (places places' : Placed) (d d' : Doer) (table : List Strand) (count' : ℕ) → IsGetBy task future e
+      → places.english ≡ english → places.hebrew ≡ hebrew → slice_get doers task ≡ Some d
       → d'.at.number ≡ length places.english → TableAfterGet places doers task future table → GetsOne places d table places' d' → count' ≡ count + 1
       → Knows (h ++ e ∷ []) places'.english places'.hebrew (set doers task d') logs count'
   get_taken task future places places' d d' table count' p en he at number table_is one counted =
@@ -184,10 +225,15 @@ module _ (h : List Event) (e : Event) (steps : IsInStep (h ++ e ∷ [])) (englis
       joined a p.acts.2 refl task places' d' count' p.task_is refl (subst (λ x. AreJoined (s ++ x ∷ []) places' task d') (sym same) j) counted
 
   pub sync_may : (task : ℕ) (places : Placed) → IsSyncBy task e → places.english ≡ english → places.hebrew ≡ hebrew → MaySync s places doers task
-  sync_may task places p en he = record { of = known_of places en he; ended = subst (λ t. AllEnded (reverse s) (block_of (reverse s) t)) p.task_is (may (Syncs p.acts.0) p.acts.1 refl).1 }
+  sync_may task places p en he = record {
+    of = known_of places en he;
+    ended = subst (λ t. AllEnded (reverse s) (block_of (reverse s) t)) p.task_is (may (Syncs p.acts.0) p.acts.1 refl).1;
+  }
 
-  pub sync_taken : (task : ℕ) (places places' : Placed) (d d' : Doer) (table : List Strand) (last : Option Strand) (count' : ℕ) → IsSyncBy task e → places.english ≡ english → places.hebrew ≡ hebrew → slice_get doers task ≡ Some d
-      → d'.at.number ≡ length places.english → TableOfBlock places doers task table → IsLastOfFirst s task last → SyncsOne places d table last places' d' → count' ≡ count + 1
+  pub sync_taken : (task : ℕ) (places places' : Placed) (d d' : Doer) (table : List Strand) (last : Option Strand) (count' : ℕ) → IsSyncBy task e
+      → places.english ≡ english → places.hebrew ≡ hebrew → slice_get doers task ≡ Some d
+      → d'.at.number ≡ length places.english → TableOfBlock places doers task table → IsLastOfFirst s task last → SyncsOne places d table last places' d'
+      → count' ≡ count + 1
       → Knows (h ++ e ∷ []) places'.english places'.hebrew (set doers task d') logs count'
   sync_taken task places places' d d' table last count' p en he at number table_is last_is one counted =
       let a = Syncs p.acts.0 in

@@ -12,6 +12,8 @@ use Rattle.reach_table.specs.Tabled.{and_then}
 use Rattle.reach_table.specs.Telling.{HasTable}
 use Rattle.reach_table.specs.Merging.{IsMergedOf}
 use Rattle.race_finder.specs.declared.doer.Doer.{Doer}
+use Rattle.race_finder.specs.declared.forks.Fork.{Fork}
+use Rattle.race_finder.specs.declared.forks.Fork.TheVariants as fork
 use Rattle.race_finder.specs.Places.{Placed}
 use Rattle.race_finder.specs.Finding.{IsDoerOf, AreDoersOf}
 
@@ -35,6 +37,11 @@ CreatesOne places doer child places' doer' kid =
     → AreOrders s places.english places.hebrew → IsDoerOf s task doer
     → AreForked (and_then s task doer.at.number (Creates code child kid.at.number doer'.at.number args)) places' task child doer' kid
 
+-- the same where it forks so
+abbrev pub ForksOne : Fork → Placed → Doer → ℕ → Placed → Doer → Doer → Type 0
+ForksOne fork.Spawn places doer child places' doer' kid = SpawnsOne places doer child places' doer' kid
+ForksOne fork.Create places doer child places' doer' kid = CreatesOne places doer child places' doer' kid
+
 -- a task is remembered as before, but for its list's room
 pub record IsSameDoer (old new : Doer) : Type 0 where
   pub at_is : new.at ≡ old.at
@@ -51,14 +58,16 @@ pub record AreJoined (s : List Event) (places : Placed) (task : ℕ) (doer : Doe
 abbrev pub GetsOne : Placed → Doer → List Strand → Placed → Doer → Type 0
 GetsOne places doer table places' doer' =
     (s : List Event) (task future : ℕ) (value : Value) → IsSound (and_then s task doer.at.number (Gets future value doer'.at.number))
-    → AreOrders s places.english places.hebrew → IsDoerOf s task doer → HasTable (and_then s task doer.at.number (Gets future value doer'.at.number)) doer'.at.number table
+    → AreOrders s places.english places.hebrew → IsDoerOf s task doer
+    → HasTable (and_then s task doer.at.number (Gets future value doer'.at.number)) doer'.at.number table
     → AreJoined (and_then s task doer.at.number (Gets future value doer'.at.number)) places' task doer'
 
 -- the same where it goes on after a sync, and this is the last strand of its block's first child
 abbrev pub SyncsOne : Placed → Doer → List Strand → Option Strand → Placed → Doer → Type 0
 SyncsOne places doer table last places' doer' =
     (s : List Event) (task : ℕ) → IsSound (and_then s task doer.at.number (Syncs doer'.at.number))
-    → AreOrders s places.english places.hebrew → IsDoerOf s task doer → IsLastOfFirst s task last → HasTable (and_then s task doer.at.number (Syncs doer'.at.number)) doer'.at.number table
+    → AreOrders s places.english places.hebrew → IsDoerOf s task doer → IsLastOfFirst s task last
+    → HasTable (and_then s task doer.at.number (Syncs doer'.at.number)) doer'.at.number table
     → AreJoined (and_then s task doer.at.number (Syncs doer'.at.number)) places' task doer'
 
 -- two lists and tasks are those of some sound structural events

@@ -1,10 +1,10 @@
 -- Paths that are made longer at the end, turned round, or kept inside a closed set.
-use Rattle.std.proofs.Common.{◌≡◌, ℕ, ◌<◌, Bool, true, List, [], ◌∷◌, length, get_or, zero, suc, map, reverse, inl, inr, sym, subst, refl, ap, arith}
+use Rattle.std.proofs.Common.{◌≡◌, ℕ, ◌<◌, Bool, true, List, [], ◌∷◌, length, get_or, map, reverse, inl, inr, sym, subst, refl, ap}
 use Rattle.std.specs.Prelude.{All, IsTrue, ◌↔◌, ◌||◌}
 use Rattle.std.proofs.lemmas.Bool.{or_cases, or_left, or_right}
 use Rattle.std.proofs.lemmas.List.{reverse-append, reverse-reverse}
 use Rattle.std.proofs.lemmas.List.Elements.{All-head, All-tail}
-use Rattle.fut_base.proofs.Members.{among_left, among_right}
+use Rattle.fut_base.proofs.Members.{among_left, among_right, at_place}
 use Rattle.fut_base.specs.Dag.{Among, IsPath, ReachesBy, AreJoinedBy}
 use Rattle.race_report.specs.declared.edges.Edge.{Edge}
 use Rattle.race_report.specs.Edges.{ends_of, turn}
@@ -26,11 +26,6 @@ among_from_map : {X Y : Type 0} (f : X → Y) (y : Y) (xs : List X) → Among y 
 among_from_map f y [] h = absurd h
 among_from_map f y (x ∷ xs) (inl same) = (x, inl refl, same)
 among_from_map f y (x ∷ xs) (inr h) = let r = among_from_map f y xs h in (r.0, inr r.1, r.2)
-
-pub among_at : {X : Type 0} (xs : List X) (i : ℕ) (d : X) → i < length xs → Among (get_or xs i d) xs
-among_at [] i d h = absurd (omega arith)
-among_at (x ∷ xs) zero d h = inl refl
-among_at (x ∷ xs) (suc i) d h = inr (among_at xs i d (omega arith))
 
 -- what holds of each item holds of each that is among them
 pub all_among : {X : Type 0} (P : X → Type 0) (xs : List X) → All P xs → (x : X) → Among x xs → P x
@@ -90,7 +85,7 @@ pub stays_inside : (steps : List Edge) (p : ℕ → Bool) → All (λ (e : Edge)
 stays_inside steps p closed u v r at = path_inside steps p closed r.0 u v r.1 at
 
 pub edge_among : (steps : List Edge) (i : ℕ) (d e : Edge) → i < length steps → e ≡ get_or steps i d → Among (e.from, e.to) (map ends_of steps)
-edge_among steps i d e h is = among_map ends_of e steps (subst (λ x. Among x steps) (sym is) (among_at steps i d h))
+edge_among steps i d e h is = among_map ends_of e steps (subst (λ x. Among x steps) (sym is) (at_place steps i d h))
 
 -- what a search back and one onward have together is what is joined
 pub joined_iff : (edges : List Edge) (before after : ℕ → Bool) (at : ℕ) → ((v : ℕ) → IsTrue (before v) ↔ ReachesBy (map ends_of (map turn (reverse edges))) at v) → ((v : ℕ) → IsTrue (after v) ↔ ReachesBy (map ends_of edges) at v) → (v : ℕ) → IsTrue (before v || after v) ↔ AreJoinedBy (map ends_of edges) v at

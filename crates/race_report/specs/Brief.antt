@@ -12,6 +12,7 @@ use Rattle.task_machine.specs.Texts.{CellArray}
 use Rattle.task_machine.specs.Machine.{create_count}
 use Rattle.run_record.specs.RunText.{finish_line}
 
+-- an action that begins a task
 abbrev pub begins_task : Action → Bool
 begins_task (Spawns _ _ _ _ _) = true
 begins_task (Creates _ _ _ _ _) = true
@@ -21,6 +22,7 @@ begins_task _ = false
 abbrev pub task_count : List Event → ℕ
 task_count h = 1 + count_by (λ e. begins_task e.action) h
 
+-- the array has the cell
 abbrev pub has_cell : ℕ → CellArray → Bool
 has_cell cell a = nat_le a.first cell && nat_lt cell (a.first + a.length)
 
@@ -38,6 +40,7 @@ abbrev pub race_row : List CellArray → Race → List ℕ
 race_row arrays r =
     codes "race " ++ (cell_name arrays r.cell ++ (codes " " ++ (decimal r.first ++ (codes " " ++ (decimal r.second ++ codes "\n")))))
 
+-- the lines of all races
 abbrev pub race_rows : List CellArray → List Race → List ℕ
 race_rows arrays [] = []
 race_rows arrays (r ∷ rs) = race_row arrays r ++ race_rows arrays rs
@@ -45,7 +48,9 @@ race_rows arrays (r ∷ rs) = race_row arrays r ++ race_rows arrays rs
 -- the four counts, a line each
 abbrev pub count_rows : List Event → List Race → List ℕ
 count_rows h races =
-    codes "tasks " ++ (decimal (task_count h) ++ (codes "\nfutures " ++ (decimal (create_count h) ++ (codes "\nevents " ++ (decimal (length h) ++ (codes "\nraces " ++ (decimal (length races) ++ codes "\n")))))))
+    codes "tasks " ++ (decimal (task_count h)
+    ++ (codes "\nfutures " ++ (decimal (create_count h)
+    ++ (codes "\nevents " ++ (decimal (length h) ++ (codes "\nraces " ++ (decimal (length races) ++ codes "\n")))))))
 
 -- the sum of all cells modulo 2^64, as two's complement
 abbrev pub sum_of : List ℤ → ℤ
@@ -60,5 +65,6 @@ sum_row true cells = codes "sum " ++ (signed_decimal (sum_of cells) ++ codes "\n
 abbrev pub last_rows : Finish → Bool → List ℤ → List ℕ
 last_rows end sum cells = codes "finish " ++ (finish_line end ++ sum_row sum cells)
 
+-- the whole brief text
 abbrev pub brief_text : List CellArray → List Event → List Race → Finish → Bool → List ℤ → List ℕ
 brief_text arrays h races end sum cells = count_rows h races ++ (race_rows arrays races ++ last_rows end sum cells)

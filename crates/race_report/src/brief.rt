@@ -181,7 +181,8 @@ fn write_last<K: Sink>(out: &mut K, finish: Finish, wanted: bool, cells: &Cells)
 /// A cell that the code does not have would have no name. `Failed` exactly where a put of this call answered Failed; a
 /// beginning of the text was then added. It takes no memory.
 pub fn write_brief<K: Sink>(out: &mut K, code: &Code, ran: &Ran, sum: bool) -> Wrote
-    ensures { Writes (K.held out.old) (K.held out.new) (K.faults out.old) (K.faults out.new) (brief_text code.now.arrays (events_of ran.now.history) ran.now.races.items ran.now.finish sum ran.now.cells.items) result }
+    ensures { Writes (K.held out.old) (K.held out.new) (K.faults out.old) (K.faults out.new)
+        (brief_text code.now.arrays (events_of ran.now.history) ran.now.races.items ran.now.finish sum ran.now.cells.items) result }
 {
     match write_counts(out, &ran.history, &ran.races) {
         Wrote::All => match write_races(out, code.arrays(), &ran.races) {

@@ -101,7 +101,8 @@ fn add_edges(
     before: &[Entry],
     entry: &Entry,
 ) -> Result<(), NoMemory>
-    ensures { OnOk result (map ends_of edges.new.items ≡ map ends_of edges.old.items ++ edges_by (past_of before.now) entry.now.task entry.now.strand (action_of entry.now.act)) }
+    ensures { OnOk result (map ends_of edges.new.items ≡ map ends_of edges.old.items
+        ++ edges_by (past_of before.now) entry.now.task entry.now.strand (action_of entry.now.act)) }
 {
     let from = entry.strand;
     match &entry.act {

@@ -25,7 +25,8 @@ fn note_pair(
     requires dag { IsDagOf entries.now dag.now }
     requires within { place < length entries.now }
     requires short { length entries.now < 2 ^ 32 }
-    ensures { OnOk result ((c : ℕ) → IsFoundBefore (map event_of entries.now) place c (get nat_cmp found.old c) → IsFoundBefore (map event_of entries.now) (place + 1) c (get nat_cmp found.new c)) }
+    ensures { OnOk result ((c : ℕ) → IsFoundBefore (map event_of entries.now) place c (get nat_cmp found.old c)
+        → IsFoundBefore (map event_of entries.now) (place + 1) c (get nat_cmp found.new c)) }
 {
     if let Some(race) = last_pair(alloc, dag, entries, place)? {
         if !found.contains_key(&race.cell) {

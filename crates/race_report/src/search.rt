@@ -28,7 +28,8 @@ pub struct Joined {
 // Adds where a step leads, if it begins among the strands.
 fn follow(reached: &mut BTreeSet<u32>, step: Edge) -> Result<(), NoMemory>
     ensures adds { OnOk result ((v : ℕ) → has reached.new v ≡ (has reached.old v || ((step.to == v) && has reached.old step.from))) }
-    ensures len { OnOk result (btree_set_len reached.new ≡ btree_set_len reached.old + (if has reached.old step.from && not (has reached.old step.to) then 1 else 0)) }
+    ensures len { OnOk result (btree_set_len reached.new ≡ btree_set_len reached.old
+        + (if has reached.old step.from && not (has reached.old step.to) then 1 else 0)) }
 {
     if reached.contains(&step.from) {
         reached.insert(step.to)?;

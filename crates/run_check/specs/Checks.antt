@@ -35,6 +35,7 @@ pub record AreOthers (P : tree.Program) (h : List Event) (races : List Race) (en
   pub number : k ≡ length h
   pub others : AreThoseOf P h races end → ⊥
 
+-- a record is refused at entry k: it is no step, or all are legal and the rest is not that of the history
 abbrev pub IsRefusedAt : tree.Program → List Event → List Race → Finish → ℕ → Type 0
 IsRefusedAt P h races end k = IsNoStepAt P h k ⊎ AreOthers P h races end k
 

@@ -8,8 +8,10 @@ use Rattle.run_check.specs.Checks.{IsAccepted, IsRefusedAt}
 
 -- a record that is accepted is refused nowhere
 abbrev pub AcceptedIsNotRefused : Type 0
-AcceptedIsNotRefused = (P : tree.Program) (h : List Event) (races : List Race) (end : Finish) (k : ℕ) → IsAccepted P h races end → IsRefusedAt P h races end k → ⊥
+AcceptedIsNotRefused = (P : tree.Program) (h : List Event) (races : List Race) (end : Finish) (k : ℕ) → IsAccepted P h races end
+    → IsRefusedAt P h races end k → ⊥
 
 -- a record is refused at one entry at most
 abbrev pub OneRefusal : Type 0
-OneRefusal = (P : tree.Program) (h : List Event) (races : List Race) (end : Finish) (j k : ℕ) → IsRefusedAt P h races end j → IsRefusedAt P h races end k → j ≡ k
+OneRefusal = (P : tree.Program) (h : List Event) (races : List Race) (end : Finish) (j k : ℕ) → IsRefusedAt P h races end j
+    → IsRefusedAt P h races end k → j ≡ k

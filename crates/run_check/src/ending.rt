@@ -31,14 +31,16 @@ fn is_to_create(wish: Wish) -> bool
 
 /// Whether every task has ended.
 fn is_whole(run: &Replay) -> bool
-    ensures { (P : tree.Program) (code : Compiled) (h : List Event) (m : Machine) → IsReplayOf P code h run.now m → IsTrue result ↔ FinishHolds P h finish.Whole }
+    ensures { (P : tree.Program) (code : Compiled) (h : List Event) (m : Machine) → IsReplayOf P code h run.now m
+        → IsTrue result ↔ FinishHolds P h finish.Whole }
 {
     run.next_ready().is_none()
 }
 
 /// Whether so many entries were made, and a task has not ended.
 fn is_cut(run: &Replay, bound: u32) -> bool
-    ensures { (P : tree.Program) (code : Compiled) (h : List Event) (m : Machine) → IsReplayOf P code h run.now m → IsTrue result ↔ FinishHolds P h (finish.Events bound) }
+    ensures { (P : tree.Program) (code : Compiled) (h : List Event) (m : Machine) → IsReplayOf P code h run.now m
+        → IsTrue result ↔ FinishHolds P h (finish.Events bound) }
 {
     if run.entries() != bound {
         return false;

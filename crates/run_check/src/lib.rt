@@ -9,4 +9,3 @@ mod same;
 #[cfg(test)]
 mod tests;
 
-pub use fut_base::bounds as numbers;

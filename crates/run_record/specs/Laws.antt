@@ -36,4 +36,5 @@ Gives p es rs f (Err fault.NoMemory) = Unit {0}
 
 -- reading a run text gives what it was written of, unless memory ran out
 abbrev pub ReadsAgain : Type 0
-ReadsAgain = (p : List ℕ) (es : List Event) (rs : List Race) (f : Finish) (r : Result RunText ReadFault) → IsWithin p es rs f → Reading (run_text p es rs f) r → Gives p es rs f r
+ReadsAgain = (p : List ℕ) (es : List Event) (rs : List Race) (f : Finish) (r : Result RunText ReadFault) → IsWithin p es rs f
+    → Reading (run_text p es rs f) r → Gives p es rs f r

@@ -65,17 +65,21 @@ abbrev pub entries_due : ℕ → ℕ → List Symbol
 entries_due place zero = []
 entries_due place (suc n) = entry_due place ++ entries_due (place + 1) n
 
+-- what is due of a race
 abbrev pub race_due : List Symbol
 race_due = word_due (codes "race ") ++ (word_due (codes " ") ++ numbered_due (codes " "))
 
+-- what is due of so many races
 abbrev pub races_due : ℕ → List Symbol
 races_due zero = []
 races_due (suc n) = race_due ++ races_due n
 
+-- so many bytes are due
 abbrev pub bytes_due : ℕ → List Symbol
 bytes_due zero = []
 bytes_due (suc n) = Any ∷ bytes_due n
 
+-- a byte that is a digit
 abbrev pub is_digit : ℕ → Bool
 is_digit x = nat_le 48 x && nat_le x 57
 
@@ -83,6 +87,7 @@ is_digit x = nat_le 48 x && nat_le x 57
 abbrev pub is_more : Kind → ℕ → ℕ → Bool
 is_more k n x = nat_lt 0 n && (is_digit x && nat_le (n * 10 + (x - 48)) (bound k))
 
+-- the byte is taken where the test passes
 abbrev pub takes_if : Bool → List Symbol → Answer
 takes_if b s = cond b (Takes s) Refuses
 
@@ -95,6 +100,7 @@ behind_rule kind.Bytes n x = takes_if (nat_eq x 10) (bytes_due n)
 behind_rule kind.Entries n x = takes_if (nat_eq x 10) (entries_due 0 n)
 behind_rule kind.Races n x = takes_if (nat_eq x 10) (races_due n)
 
+-- the rules of the symbols: what each makes of the next byte
 abbrev pub digits_rule : Kind → ℕ → ℕ → Answer
 digits_rule k n x = cond (is_more k n x) (Takes (Digits k (n * 10 + (x - 48)) ∷ [])) (behind_rule k n x)
 
@@ -122,9 +128,11 @@ abbrev pub call_due : List ℕ → List Symbol
 call_due word =
     word_due word ++ (word_due (codes " t") ++ (word_due (codes " s") ++ (word_due (codes " s") ++ (Arguments MOST_ARGUMENTS ∷ []))))
 
+-- what is due of a get
 abbrev pub get_due : List Symbol
 get_due = word_due (codes "et f") ++ (due (codes " ") ++ (Datum ∷ numbered_due (codes " s")))
 
+-- what is due of an end
 abbrev pub end_due : List Symbol
 end_due = due (codes "nd ") ++ (Datum ∷ due (codes "\n"))
 
@@ -147,6 +155,7 @@ finish_rule x =
     (cond (nat_eq x 108) (Takes (numbered_due (codes "ocal ")))
     (takes_if (nat_eq x 102) (numbered_due (codes "utures ")))))
 
+-- what a symbol makes of the next byte
 abbrev pub rule : Symbol → ℕ → Answer
 rule (Byte b) x = takes_if (nat_eq x b) []
 rule Any x = Takes []
@@ -166,6 +175,7 @@ by_answer (Takes s) k passed = Some (s ++ k)
 by_answer Passes k passed = passed
 by_answer Refuses k passed = None
 
+-- what is due after the next byte, where it is taken
 abbrev pub next : List Symbol → ℕ → Option (List Symbol)
 next [] x = None
 next (a ∷ k) x = by_answer (rule a x) k (next k x)
@@ -185,10 +195,12 @@ abbrev pub at_end : List Symbol → Option ℕ
 at_end [] = None
 at_end (a ∷ k) = Some 0
 
+-- the run stops with so many bytes left, or goes on
 abbrev pub run_on : Option (List Symbol) → ℕ → (List Symbol → Option ℕ) → Option ℕ
 run_on None left f = Some left
 run_on (Some s) left f = f s
 
+-- how many bytes are left where the run stops, or none where they are just what is due
 abbrev pub run : List Symbol → List ℕ → Option ℕ
 run s [] = at_end s
 run s (x ∷ xs) = run_on (next s x) (suc (length xs)) (λ s. run s xs)
@@ -197,12 +209,15 @@ run s (x ∷ xs) = run_on (next s x) (suc (length xs)) (λ s. run s xs)
 abbrev pub program_due : List Symbol
 program_due = due (codes "forder 1\nprogram ") ++ (Number kind.Bytes ∷ [])
 
+-- what is due before the entries
 abbrev pub history_due : List Symbol
 history_due = due (codes "\nentries ") ++ (Number kind.Entries ∷ [])
 
+-- what is due before the races
 abbrev pub report_due : List Symbol
 report_due = due (codes "races ") ++ (Number kind.Races ∷ [])
 
+-- what is due behind the races
 abbrev pub last_due : List Symbol
 last_due = due (codes "finish ") ++ (Finish' ∷ due (codes "end\n"))
 

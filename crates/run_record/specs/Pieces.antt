@@ -18,5 +18,6 @@ abbrev pub pieces_before : List Piece → List ℕ → List ℕ
 pieces_before [] rest = rest
 pieces_before (p ∷ ps) rest = piece_text p ++ pieces_before ps rest
 
+-- the text of the pieces
 abbrev pub pieces_text : List Piece → List ℕ
 pieces_text ps = pieces_before ps []

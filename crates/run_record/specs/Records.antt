@@ -14,21 +14,27 @@ use Rattle.run_record.specs.RunText.{run_text}
 abbrev pub IsFew : ℕ → Type 0
 IsFew count = count ≤ MOST_ARGUMENTS
 
+-- the numbers of a call are within their bounds, and it has at most 16 arguments
 abbrev pub IsCall : ℕ → ℕ → ℕ → ℕ → List Value → Type 0
 IsCall code child kid cont args = IsCallWith IsFew code child kid cont args
 
+-- so are those of an action
 abbrev pub IsAction : Action → Type 0
 IsAction a = IsActionWith IsFew a
 
+-- so are those of an event
 abbrev pub IsEvent : Event → Type 0
 IsEvent e = IsEventWith IsFew e
 
+-- so are those of each event
 abbrev pub AreEvents : List Event → Type 0
 AreEvents es = AreEventsWith IsFew es
 
+-- the numbers of a race are within their bounds
 abbrev pub IsRace : Race → Type 0
 IsRace r = IsNumber r.cell × IsNumber r.first × IsNumber r.second
 
+-- so are those of each race
 abbrev pub AreRaces : List Race → Type 0
 AreRaces [] = Unit {0}
 AreRaces (r ∷ rs) = IsRace r × AreRaces rs

@@ -52,6 +52,7 @@ abbrev pub race_line : Race → List ℕ
 race_line r =
     codes "race " ++ (decimal r.cell ++ (codes " " ++ (decimal r.first ++ (codes " " ++ (decimal r.second ++ codes "\n")))))
 
+-- the lines of all races
 abbrev pub race_lines : List Race → List ℕ
 race_lines [] = []
 race_lines (r ∷ rs) = race_line r ++ race_lines rs

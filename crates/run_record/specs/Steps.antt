@@ -20,10 +20,12 @@ use Rattle.run_record.specs.declared.bounds.TheConstants.{MOST_ARGUMENTS, MOST_R
 use Rattle.run_record.specs.Records.{IsNumber, IsSigned, AreValues, IsCall, AreEvents, AreRaces, IsWithin}
 use Rattle.run_record.specs.Machine.{Symbol, Number, Digits, due, run, is_more, bound, bytes_due, entries_due, races_due}
 
+-- the first byte, where there is one
 abbrev pub front : List ℕ → Option ℕ
 front [] = None
 front (x ∷ xs) = Some x
 
+-- the bytes behind the first
 abbrev pub behind : List ℕ → List ℕ
 behind [] = []
 behind (x ∷ xs) = xs
@@ -36,6 +38,7 @@ pub record Steps (s : List Symbol) (xs : List ℕ) (s' : List Symbol) (ys : List
 pub record Halts (s : List Symbol) (xs ys : List ℕ) : Type 0 where
   pub stops : (k : List Symbol) → run (s ++ k) xs ≡ Some (length ys)
 
+-- why reading stops: no memory, or a byte that is not due
 abbrev pub StopsBy : List Symbol → List ℕ → List ℕ → Stop → Type 0
 StopsBy s xs ys stop.Fault = Halts s xs ys
 StopsBy s xs ys stop.NoMemory = Unit {0}
@@ -84,6 +87,7 @@ pub record IsDigits (k : Kind) (xs : List ℕ) (n : ℕ) (ys : List ℕ) : Type 
   pub most : n ≤ bound k
   pub ends : EndsAt k n ys
 
+-- the digits of a number were taken, or reading stops
 abbrev pub ReadNumber : Kind → List ℕ → List ℕ → Result ℕ Stop → Type 0
 ReadNumber k xs ys (Ok n) = IsDigits k xs n ys
 ReadNumber k xs ys (Err e) = Stops (Number k ∷ []) xs ys e
@@ -106,6 +110,7 @@ is_count kind.Bytes = true
 is_count kind.Entries = true
 is_count kind.Races = true
 
+-- a count and the end of its line were taken, or reading stops
 abbrev pub ReadCount : Kind → List ℕ → List ℕ → Result ℕ Stop → Type 0
 ReadCount k xs ys (Ok n) = Steps (Number k ∷ []) xs (counted k n) ys × (xs ≡ decimal n ++ 10 ∷ ys) × (n ≤ bound k)
 ReadCount k xs ys (Err e) = Stops (Number k ∷ []) xs ys e
@@ -114,6 +119,7 @@ ReadCount k xs ys (Err e) = Stops (Number k ∷ []) xs ys e
 abbrev pub same : {X : Type 0} → X → X
 same x = x
 
+-- the items of a list
 abbrev pub items_of : {X : Type 0} → Listed X → List X
 items_of l = l.items
 
@@ -129,21 +135,27 @@ as_line word n = word ++ (decimal n ++ codes "\n")
 abbrev pub AreArguments : List Value → Type 0
 AreArguments vs = (length vs ≤ MOST_ARGUMENTS) × AreValues vs
 
+-- the line of an access, behind this word
 abbrev pub access_text : List ℕ → Access → List ℕ
 access_text word a = word ++ (decimal a.cell ++ (codes " " ++ (signed_decimal a.value ++ codes "\n")))
 
+-- the numbers of an access are within their bounds
 abbrev pub IsAccess : Access → Type 0
 IsAccess a = IsNumber a.cell × IsSigned a.value
 
+-- the line of a call, behind this word
 abbrev pub call_text : List ℕ → Call → List ℕ
 call_text word c = word ++ call_line c.code c.child c.kid c.cont c.args.items
 
+-- the numbers of a call are within their bounds
 abbrev pub IsCalled : Call → Type 0
 IsCalled c = IsCall c.code c.child c.kid c.cont c.args.items
 
+-- so many events, whose numbers are within their bounds
 abbrev pub AreEntries : ℕ → List Event → Type 0
 AreEntries n es = (length es ≡ n) × AreEvents es
 
+-- so many races, whose numbers are within their bounds
 abbrev pub AreRacesOf : ℕ → List Race → Type 0
 AreRacesOf n rs = (length rs ≡ n) × AreRaces rs
 
@@ -151,6 +163,7 @@ AreRacesOf n rs = (length rs ≡ n) × AreRaces rs
 abbrev pub program_text : List ℕ → List ℕ
 program_text program = codes "forder 1\nprogram " ++ (decimal (length program) ++ (codes "\n" ++ program))
 
+-- a program that is not too long
 abbrev pub IsProgram : List ℕ → Type 0
 IsProgram program = length program ≤ MOST_PROGRAM_BYTES
 
@@ -158,6 +171,7 @@ IsProgram program = length program ≤ MOST_PROGRAM_BYTES
 abbrev pub history_text : List Event → List ℕ
 history_text es = codes "\nentries " ++ (decimal (length es) ++ (codes "\n" ++ entry_lines 0 es))
 
+-- a history that is not too long, whose numbers are within their bounds
 abbrev pub IsHistory : List Event → Type 0
 IsHistory es = (length es ≤ MOST_ENTRIES) × AreEvents es
 
@@ -165,6 +179,7 @@ IsHistory es = (length es ≤ MOST_ENTRIES) × AreEvents es
 abbrev pub report_text : List Race → List ℕ
 report_text rs = codes "races " ++ (decimal (length rs) ++ (codes "\n" ++ race_lines rs))
 
+-- races that are not too many, whose numbers are within their bounds
 abbrev pub IsReport : List Race → Type 0
 IsReport rs = (length rs ≤ MOST_RACES) × AreRaces rs
 
@@ -172,5 +187,6 @@ IsReport rs = (length rs ≤ MOST_RACES) × AreRaces rs
 abbrev pub whole_text : RunText → List ℕ
 whole_text r = run_text r.program.items (events_of r.history) r.races.items r.finish
 
+-- a record within its bounds
 abbrev pub IsWhole : RunText → Type 0
 IsWhole r = IsWithin r.program.items (events_of r.history) r.races.items r.finish

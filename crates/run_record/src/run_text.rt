@@ -210,7 +210,8 @@ pub fn write_run<K: Sink>(
     races: &Races,
     finish: Finish,
 ) -> Wrote
-    ensures { Writes (K.held out.old) (K.held out.new) (K.faults out.old) (K.faults out.new) (run_text program.now (events_of history.now) races.now.items finish) result }
+    ensures { Writes (K.held out.old) (K.held out.new) (K.faults out.old) (K.faults out.new)
+        (run_text program.now (events_of history.now) races.now.items finish) result }
 {
     match write_program(out, program, history.len()) {
         Wrote::All => match write_entries(out, history) {

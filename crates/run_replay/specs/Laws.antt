@@ -9,5 +9,6 @@ use Rattle.run_replay.specs.Serials.{IsSerialRun}
 -- two serial runs of a program within the same limits are one run: the same events, the same cause of the end, the same cells
 abbrev pub SerialIsOne : Type 0
 SerialIsOne =
-    (P : tree.Program) (limits : Limits) (h g : List Event) (f e : Finish) (cells values : List ℤ) → IsSerialRun P limits h f cells → IsSerialRun P limits g e values
+    (P : tree.Program) (limits : Limits) (h g : List Event) (f e : Finish) (cells values : List ℤ)
+    → IsSerialRun P limits h f cells → IsSerialRun P limits g e values
     → (h ≡ g) × (f ≡ e) × (cells ≡ values)

@@ -16,6 +16,7 @@ use Rattle.run_replay.specs.declared.replay.Next.{Next}
 use Rattle.run_replay.specs.declared.replay.Next.TheVariants as next
 use Rattle.run_replay.specs.Replays.{ReplayNow, IsReplayOf, IsEvent, IsFree}
 
+-- a wish to create a future
 abbrev pub is_create : asked.Wish → Bool
 is_create (wish.Create _) = true
 is_create _ = false

@@ -81,8 +81,10 @@ StandsStill code old new = (P : tree.Program) (h : List Event) (m : Machine) →
 pub record KeepsTask (code : Compiled) (old new : TaskNow) : Type 0 where
   pub which : new.which ≡ old.which
   pub ended : new.spot.ended ≡ old.spot.ended
-  pub state : (P : tree.Program) → IsWellTyped P → IsCodeOf P code → (args : List Value) (s : TaskState) → IsTaskOf P code args old s → IsTaskOf P code args new s
+  pub state : (P : tree.Program) → IsWellTyped P → IsCodeOf P code → (args : List Value) (s : TaskState)
+      → IsTaskOf P code args old s → IsTaskOf P code args new s
 
+-- a line whose task may have made local steps, and which is else the same
 pub record KeepsLine (code : Compiled) (old new : Line) : Type 0 where
   pub task : KeepsTask code old.task new.task
   pub strand : new.strand ≡ old.strand
@@ -99,8 +101,11 @@ pub record HasRoom (line : Line) : Type 0 where
 pub record Fed (code : Compiled) (old new : TaskNow) (a : Action) : Type 0 where
   pub which : new.which ≡ old.which
   pub ended : new.spot.ended ≡ is_some (value_by a None)
-  pub state : (P : tree.Program) → IsWellTyped P → IsCodeOf P code → (args : List Value) (s t : TaskState) → IsTaskOf P code args old s → StandsAt s t → Answers (wish_of P t) a → ActionFits any_future P old.which t a → IsTaskOf P code args new (effect_of t a)
+  pub state : (P : tree.Program) → IsWellTyped P → IsCodeOf P code → (args : List Value) (s t : TaskState)
+      → IsTaskOf P code args old s → StandsAt s t → Answers (wish_of P t) a → ActionFits any_future P old.which t a
+      → IsTaskOf P code args new (effect_of t a)
 
+-- a line after an action of its task
 pub record ActsAs (code : Compiled) (old new : Line) (a : Action) : Type 0 where
   pub fed : old.task.spot.ended ≡ false → IsStill code old.task → Fed code old.task new.task a
   pub strand : new.strand ≡ strand_after a old.strand
@@ -116,6 +121,7 @@ pub record KeepsLineAt (code : Compiled) (old new : List Line) (t : ℕ) : Type 
   pub is : new ≡ slice_set old t after
   pub keeps : KeepsLine code before after
 
+-- the line of a task has room for one more
 abbrev pub HasRoomAt : List Line → ℕ → Type 0
 HasRoomAt lines t = (line : Line) × (slice_get lines t ≡ Some line) × HasRoom line
 
@@ -139,6 +145,7 @@ StillAt code lines t = (line : Line) × (slice_get lines t ≡ Some line) × (li
 abbrev pub IsOn : List Line → ℕ → ℕ → Type 0
 IsOn lines t strand = (line : Line) × (slice_get lines t ≡ Some line) × (line.strand ≡ strand)
 
+-- the task exists and has not ended
 abbrev pub is_running : Option Line → Bool
 is_running None = false
 is_running (Some line) = not (is_some line.value)
@@ -148,6 +155,7 @@ abbrev pub line_value : Option Line → Option Value
 line_value None = None
 line_value (Some line) = line.value
 
+-- the value with which a task has ended, where it has
 abbrev pub value_at : List Line → ℕ → Option Value
 value_at lines t = line_value (slice_get lines t)
 
@@ -185,6 +193,7 @@ Finds old new e = (h : List Event) → IsFinderOf h old → IsInStep (h ++ e ∷
 abbrev pub FindsStill : Finder → Finder → Type 0
 FindsStill old new = (h : List Event) → IsFinderOf h old → IsFinderOf h new
 
+-- how many creates it is
 abbrev pub creates_by : Bool → ℕ
 creates_by true = 1
 creates_by false = 0

@@ -18,6 +18,7 @@ IsSerialPast P [] = Unit {0}
 IsSerialPast P (e ∷ past) =
     ((m : Machine) × (r : Running) × Leads P (opening P) (reverse past) m × IsFirst (reverse past) m e.task r) × IsSerialPast P past
 
+-- each event of the history is of the task that was first after the earlier ones
 abbrev pub IsSerial : tree.Program → List Event → Type 0
 IsSerial P h = IsSerialPast P (reverse h)
 
@@ -60,4 +61,5 @@ AlwaysRuns code limits h now = (P : tree.Program) → IsWellTyped P → IsCodeOf
 -- after a turn the run has made one more event, or stops
 abbrev pub HasTurned : Compiled → Limits → List Event → List Event → ReplayNow → Option Finish → Type 0
 HasTurned code limits h new now None = (length new ≡ length h + 1) × AlwaysRuns code limits new now
-HasTurned code limits h new now (Some f) = (P : tree.Program) → IsWellTyped P → IsCodeOf P code → (x : Runs P code limits new now) × Stops P limits new x.machine f
+HasTurned code limits h new now (Some f) = (P : tree.Program) → IsWellTyped P → IsCodeOf P code
+    → (x : Runs P code limits new now) × Stops P limits new x.machine f

@@ -58,7 +58,15 @@ impl Model for Replay {
 
     ghost Value = { ReplayNow };
 
-    ghost view = { λ r. record { lines = r.lines.items; cells = r.cells.items; ready = r.ready.items; entries = r.entries; creates = r.creates; strands = r.strands; finder = r.finder } };
+    ghost view = { λ r. record {
+      lines = r.lines.items;
+      cells = r.cells.items;
+      ready = r.ready.items;
+      entries = r.entries;
+      creates = r.creates;
+      strands = r.strands;
+      finder = r.finder;
+    } };
 }
 
 /// Whether a task goes on with local steps for too long.
@@ -114,7 +122,8 @@ impl Replay {
     /// The races of the entries so far: the racing cells in order, each with its first pair.
     pub fn races(&self, alloc: Global) -> Result<Races, NoMemory>
         requires known { (code : Compiled) × IsSomeReplay code self.now }
-        ensures { IfOk result (λ races. (P : tree.Program) (code : Compiled) (h : List Event) (m : Machine) → IsReplayOf P code h self.now m → IsReport h races.items) }
+        ensures { IfOk result (λ races. (P : tree.Program) (code : Compiled) (h : List Event) (m : Machine)
+            → IsReplayOf P code h self.now m → IsReport h races.items) }
     {
         self.finder.races(alloc)
     }
@@ -122,8 +131,10 @@ impl Replay {
     /// The first task, in English order, of those that have not ended. `None` exactly where every task has ended. The task is
     /// out of steps, or what it wishes is allowed: no run is stuck.
     pub fn next_ready(&self) -> Option<u32>
-        ensures first { (P : tree.Program) (code : Compiled) (h : List Event) (m : Machine) → IsReplayOf P code h self.now m → MatchOption result (EachEnded m.tasks) (λ t. (r : Running) × IsFirst h m t r) }
-        ensures may_go_on { (P : tree.Program) (code : Compiled) (h : List Event) (m : Machine) → IsReplayOf P code h self.now m → IfSome result (λ t. MayGoOn P m t) }
+        ensures first { (P : tree.Program) (code : Compiled) (h : List Event) (m : Machine) → IsReplayOf P code h self.now m
+            → MatchOption result (EachEnded m.tasks) (λ t. (r : Running) × IsFirst h m t r) }
+        ensures may_go_on { (P : tree.Program) (code : Compiled) (h : List Event) (m : Machine) → IsReplayOf P code h self.now m
+            → IfSome result (λ t. MayGoOn P m t) }
     {
         let count = self.ready.len();
         if count == 0 {
@@ -174,7 +185,8 @@ impl Replay {
         ensures running { RunsAt self.new.lines task }
         ensures stands { IsEvent result → StillAt code.now self.new.lines task }
         ensures counts { (self.new.entries ≡ self.old.entries) × (self.new.creates ≡ self.old.creates) }
-        ensures wish { (P : tree.Program) (h : List Event) (m : Machine) (r : Running) → IsReplayOf P code.now h self.old m → slice_get m.tasks task ≡ Some r → Wishes P MOST_LOCAL_STEPS r.state result }
+        ensures wish { (P : tree.Program) (h : List Event) (m : Machine) (r : Running) → IsReplayOf P code.now h self.old m
+            → slice_get m.tasks task ≡ Some r → Wishes P MOST_LOCAL_STEPS r.state result }
     {
         let line = &mut self.lines[task as usize];
         line.task.advance(code, MOST_LOCAL_STEPS)
@@ -207,7 +219,9 @@ impl Replay {
     /// What a wish waits for: the children of its task, as `Some(None)`, or a future.
     pub fn waits(&self, task: u32, wish: Wish) -> Option<Option<u32>>
         requires exists { task < length self.now.lines }
-        ensures { (P : tree.Program) (code : Compiled) (h : List Event) (m : Machine) (r : Running) → IsReplayOf P code h self.now m → slice_get m.tasks task ≡ Some r → MatchOption result (IsFree m r wish) (λ future. IsBarred m r wish future) }
+        ensures { (P : tree.Program) (code : Compiled) (h : List Event) (m : Machine) (r : Running)
+            → IsReplayOf P code h self.now m → slice_get m.tasks task ≡ Some r
+            → MatchOption result (IsFree m r wish) (λ future. IsBarred m r wish future) }
     {
         match wish {
             Wish::Sync => {
@@ -234,7 +248,9 @@ impl Replay {
     fn args(&self, code: &Code, task: u32) -> Result<Args, NoMemory>
         requires known { IsSomeReplay code.now self.now }
         requires still { StillAt code.now self.now.lines task }
-        ensures { (P : tree.Program) (h : List Event) (m : Machine) (r : Running) (stop : TaskState) (which : ℕ) (args : List Carried) → IsReplayOf P code.now h self.now m → slice_get m.tasks task ≡ Some r → StandsAt r.state stop → (wish_of P stop ≡ ToSpawn which args) ⊎ (wish_of P stop ≡ ToCreate which args) → IfOk result (λ a. a.items ≡ args) }
+        ensures { (P : tree.Program) (h : List Event) (m : Machine) (r : Running) (stop : TaskState) (which : ℕ)
+            (args : List Carried) → IsReplayOf P code.now h self.now m → slice_get m.tasks task ≡ Some r → StandsAt r.state stop
+            → (wish_of P stop ≡ ToSpawn which args) ⊎ (wish_of P stop ≡ ToCreate which args) → IfOk result (λ a. a.items ≡ args) }
     {
         self.lines[task as usize].task.args(self.alloc, code)
     }
@@ -246,7 +262,9 @@ impl Replay {
         requires event { IsEvent wish }
         requires few { length self.now.lines < 2 ^ 32 }
         requires made { self.now.strands + 2 ≤ 2 ^ 32 }
-        ensures { (P : tree.Program) (h : List Event) (m : Machine) (r : Running) → IsReplayOf P code.now h self.now m → slice_get m.tasks task ≡ Some r → Wishes P MOST_LOCAL_STEPS r.state wish → IsFree m r wish → IfOk result (λ act. CanAct P m r (action_of act)) }
+        ensures { (P : tree.Program) (h : List Event) (m : Machine) (r : Running) → IsReplayOf P code.now h self.now m
+            → slice_get m.tasks task ≡ Some r → Wishes P MOST_LOCAL_STEPS r.state wish → IsFree m r wish
+            → IfOk result (λ act. CanAct P m r (action_of act)) }
     {
         let strand = self.strands as u32;
         let child = self.lines.len() as u32;
@@ -336,7 +354,9 @@ impl Replay {
         requires still { StillAt code.now self.old.lines task }
         requires event { IsEvent wish }
         requires few { self.old.entries < 2 ^ 29 }
-        ensures made { (P : tree.Program) (h : List Event) (m : Machine) (r : Running) → IsReplayOf P code.now h self.old m → IsRunning m task r → Wishes P MOST_LOCAL_STEPS r.state wish → IsFree m r wish → IfOk result (λ entry. Goes P code.now h m task wish (event_of entry) self.new) }
+        ensures made { (P : tree.Program) (h : List Event) (m : Machine) (r : Running) → IsReplayOf P code.now h self.old m
+            → IsRunning m task r → Wishes P MOST_LOCAL_STEPS r.state wish → IsFree m r wish
+            → IfOk result (λ entry. Goes P code.now h m task wish (event_of entry) self.new) }
         ensures unchanged { OnErr result (StandsStill code.now self.old self.new) }
     {
         let act = self.act_of(code, task, wish)?;
@@ -363,7 +383,9 @@ impl Replay {
     /// Why a task that wishes this makes no event now.
     fn bar(&self, limits: Limits, task: u32, wish: Wish) -> Option<Next>
         requires exists { task < length self.now.lines }
-        ensures { (P : tree.Program) (code : Compiled) (h : List Event) (m : Machine) (r : Running) → IsReplayOf P code h self.now m → IsRunning m task r → Wishes P MOST_LOCAL_STEPS r.state wish → MatchOption result (MayGo limits h m r wish) (λ next. IsBar P limits h m task next) }
+        ensures { (P : tree.Program) (code : Compiled) (h : List Event) (m : Machine) (r : Running)
+            → IsReplayOf P code h self.now m → IsRunning m task r → Wishes P MOST_LOCAL_STEPS r.state wish
+            → MatchOption result (MayGo limits h m r wish) (λ next. IsBar P limits h m task next) }
     {
         if is_long(wish) {
             return Some(Next::Spent {

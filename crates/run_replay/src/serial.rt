@@ -71,7 +71,8 @@ pub fn serial(alloc: Global, code: &Code, limits: Limits) -> Result<Ran, NoMemor
     requires local { limits.local_steps ≡ MOST_LOCAL_STEPS }
     requires events { limits.events ≤ MOST_ENTRIES }
     requires futures { limits.futures ≡ MOST_CREATES }
-    ensures run { IfOk result (λ ran. (P : tree.Program) → IsWellTyped P → IsCodeOf P code.now → IsSerialRun P limits (events_of ran.history) ran.finish ran.cells.items) }
+    ensures run { IfOk result (λ ran. (P : tree.Program) → IsWellTyped P → IsCodeOf P code.now
+        → IsSerialRun P limits (events_of ran.history) ran.finish ran.cells.items) }
     ensures races { IfOk result (λ ran. IsReport (events_of ran.history) ran.races.items) }
     ensures never_stuck { IfOk result (λ ran. (P : tree.Program) → IsWellTyped P → IsCodeOf P code.now → IsNeverStuck P (events_of ran.history)) }
 {

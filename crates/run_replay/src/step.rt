@@ -29,7 +29,8 @@ impl Replay {
     pub fn step(&mut self, code: &Code, entry: &Entry) -> Result<(), StepStop>
         requires known { IsSomeReplay code.now self.old }
         requires few { self.old.entries < 2 ^ 29 }
-        ensures { (P : tree.Program) (h : List Event) (m : Machine) → IsReplayOf P code.now h self.old m → IsStepped P code.now h m (event_of entry.now) self.new result }
+        ensures { (P : tree.Program) (h : List Event) (m : Machine) → IsReplayOf P code.now h self.old m
+            → IsStepped P code.now h m (event_of entry.now) self.new result }
     {
         let task = entry.task;
         if !self.runs(task) {

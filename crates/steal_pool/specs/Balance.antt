@@ -9,18 +9,23 @@ abbrev pub weigh : {A : Type 0} → (A → ℕ) → List A → ℕ
 weigh h [] = 0
 weigh h (x ∷ xs) = h x + weigh h xs
 
+-- an account of these shares, with what was put and taken
 abbrev pub tally : {J : Type 0} → ℕ → List J → List J → Tally J
 tally parts put taken = record { parts = parts; put = put; taken = taken }
 
+-- more was put
 abbrev pub with_put : {J : Type 0} → Tally J → List J → Tally J
 with_put v xs = tally v.parts (v.put ++ xs) v.taken
 
+-- more was taken
 abbrev pub with_taken : {J : Type 0} → Tally J → List J → Tally J
 with_taken v xs = tally v.parts v.put (v.taken ++ xs)
 
+-- one share fewer
 abbrev pub cut_off : {J : Type 0} → Tally J → Tally J
 cut_off v = tally (v.parts - 1) v.put v.taken
 
+-- two accounts in one
 abbrev pub joined : {J : Type 0} → Tally J → Tally J → Tally J
 joined v w = tally (v.parts + w.parts) (v.put ++ w.put) (v.taken ++ w.taken)
 

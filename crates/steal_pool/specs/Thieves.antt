@@ -8,6 +8,7 @@ use Rattle.steal_pool.specs.declared.thief.Thief.{Thief}
 use Rattle.steal_pool.specs.Balance.{weigh, tally}
 use Rattle.steal_pool.specs.Deques.{own_tally, own_id, victim_tally, victim_id, TookFirst}
 
+-- what tells the thieves of one pool from those of others
 abbrev pub Id : Type 0
 Id = RowsId × Global
 

@@ -76,7 +76,8 @@ LeastWaitsForNone =
 abbrev pub TryMeansPath : Type 0
 TryMeansPath =
     (past : List Event) → IsSoundPast past → (u v : ℕ) → AreStrands past u v
-    → ReachesBy (edges_past past) u v ↔ (((home_of past u ≡ home_of past v) × ((u ≡ v) ⊎ (precedes_past past u v ≡ true))) ⊎ ((home_of past u ≢ home_of past v) × Covers past (table_past past v) u))
+    → ReachesBy (edges_past past) u v ↔ (((home_of past u ≡ home_of past v) × ((u ≡ v) ⊎ (precedes_past past u v ≡ true)))
+    ⊎ ((home_of past u ≢ home_of past v) × Covers past (table_past past v) u))
 
 -- the edges of a history are those of its structure
 abbrev pub StructureHasEdges : Type 0

@@ -28,31 +28,38 @@ belongs_by s task at action v f sound here =
     record { there = r.0; future_is = r.1 }
 
 -- the acting strand is of its task's future
-acting : (past : List Event) (task : ℕ) (at : Strand) (action : Action) → IsSoundPast (ev task at.number action ∷ past) → IsOf past at → at.future ≡ future_of past task
+acting : (past : List Event) (task : ℕ) (at : Strand) (action : Action) → IsSoundPast (ev task at.number action ∷ past) → IsOf past at
+    → at.future ≡ future_of past task
 acting past task at action sound here = here.1 ∙ current_belongs past sound.0 task at.number sound.1.stands
 
-pub kid_of_spawn : (s : List Event) (task code child cont : ℕ) (args : List Value) (at v : Strand) → v.future ≡ at.future → Belongs s task at (Spawns code child v.number cont args) v
+pub kid_of_spawn : (s : List Event) (task code child cont : ℕ) (args : List Value) (at v : Strand) → v.future ≡ at.future
+    → Belongs s task at (Spawns code child v.number cont args) v
 kid_of_spawn s task code child cont args at v is =
     belongs_by s task at (Spawns code child v.number cont args) v (λ sound here. (
       (let k : v.number ≡ next_strand (reverse s) = sound.1.acts.1 in omega (arith, k)),
-      is ∙ acting (reverse s) task at _ sound here ∙ sym (ap (λ b. if b then future_of (reverse s) task else home_of (reverse s) v.number) (or_left v.number cont)),
+      is ∙ acting (reverse s) task at _ sound here ∙ sym (ap (λ b. if b then future_of (reverse s) task else home_of (reverse s)
+          v.number) (or_left v.number cont)),
     ))
 
-pub cont_of_spawn : (s : List Event) (task code child kid : ℕ) (args : List Value) (at v : Strand) → v.future ≡ at.future → Belongs s task at (Spawns code child kid v.number args) v
+pub cont_of_spawn : (s : List Event) (task code child kid : ℕ) (args : List Value) (at v : Strand) → v.future ≡ at.future
+    → Belongs s task at (Spawns code child kid v.number args) v
 cont_of_spawn s task code child kid args at v is =
     belongs_by s task at (Spawns code child kid v.number args) v (λ sound here. (
       (let k : kid ≡ next_strand (reverse s) = sound.1.acts.1 in let y : v.number ≡ kid + 1 = sound.1.acts.2 in omega (arith, k, y)),
-      is ∙ acting (reverse s) task at _ sound here ∙ sym (ap (λ b. if b then future_of (reverse s) task else home_of (reverse s) v.number) (or_right v.number kid)),
+      is ∙ acting (reverse s) task at _ sound here ∙ sym (ap (λ b. if b then future_of (reverse s) task else home_of (reverse s)
+          v.number) (or_right v.number kid)),
     ))
 
-pub kid_of_create : (s : List Event) (task code child cont : ℕ) (args : List Value) (at v : Strand) → v.future ≡ child → Belongs s task at (Creates code child v.number cont args) v
+pub kid_of_create : (s : List Event) (task code child cont : ℕ) (args : List Value) (at v : Strand) → v.future ≡ child
+    → Belongs s task at (Creates code child v.number cont args) v
 kid_of_create s task code child cont args at v is =
     belongs_by s task at (Creates code child v.number cont args) v (λ sound here. (
       (let k : v.number ≡ next_strand (reverse s) = sound.1.acts.1 in omega (arith, k)),
       is ∙ sym (if_self v.number child (if v.number == cont then future_of (reverse s) task else home_of (reverse s) v.number)),
     ))
 
-pub cont_of_create : (s : List Event) (task code child kid : ℕ) (args : List Value) (at v : Strand) → v.future ≡ at.future → Belongs s task at (Creates code child kid v.number args) v
+pub cont_of_create : (s : List Event) (task code child kid : ℕ) (args : List Value) (at v : Strand) → v.future ≡ at.future
+    → Belongs s task at (Creates code child kid v.number args) v
 cont_of_create s task code child kid args at v is =
     belongs_by s task at (Creates code child kid v.number args) v (λ sound here. (
     let k : kid ≡ next_strand (reverse s) = sound.1.acts.1 in

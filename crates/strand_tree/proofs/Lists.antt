@@ -22,18 +22,21 @@ two_after x a b n (z ∷ zs) h le =
 pub both_after : (x a b : ℕ) (xs : List ℕ) → put_after x (b ∷ []) (put_after x (a ∷ []) xs) ≡ put_after x (b ∷ a ∷ []) xs
 both_after x a b [] = refl
 both_after x a b (z ∷ zs) =
-    by_eq (λ t. z ∷ (if t then b ∷ (if t then a ∷ zs else put_after x (a ∷ []) zs) else put_after x (b ∷ []) (if t then a ∷ zs else put_after x (a ∷ []) zs)) ≡ z ∷ (if t then b ∷ a ∷ zs else put_after x (b ∷ a ∷ []) zs)) z x
+    by_eq (λ t. z ∷ (if t then b ∷ (if t then a ∷ zs else put_after x (a ∷ []) zs) else put_after x (b ∷ [])
+    (if t then a ∷ zs else put_after x (a ∷ []) zs)) ≡ z ∷ (if t then b ∷ a ∷ zs else put_after x (b ∷ a ∷ []) zs)) z x
     (λ _. refl) (λ _. ap (λ r. z ∷ r) (both_after x a b zs))
 
 -- a kid after x and a continuation after the kid
-pub english_fork : (at x y kid cont : ℕ) (old mid new : List ℕ) → x ≡ at → y ≡ kid → IsNumbered old → kid ≡ length old → mid ≡ put_after x (kid ∷ []) old → new ≡ put_after y (cont ∷ []) mid → new ≡ put_after at (kid ∷ cont ∷ []) old
+pub english_fork : (at x y kid cont : ℕ) (old mid new : List ℕ) → x ≡ at → y ≡ kid → IsNumbered old → kid ≡ length old → mid ≡ put_after x (kid ∷ []) old
+    → new ≡ put_after y (cont ∷ []) mid → new ≡ put_after at (kid ∷ cont ∷ []) old
 english_fork at x y kid cont old mid new x_is y_is numbered next mid_is new_is =
     let first : mid ≡ put_after at (kid ∷ []) old = mid_is ∙ ap (λ v. put_after v (kid ∷ []) old) x_is in
     let second : new ≡ put_after kid (cont ∷ []) mid = new_is ∙ ap (λ v. put_after v (cont ∷ []) mid) y_is in
     second ∙ ap (put_after kid (cont ∷ [])) first ∙ two_after at kid cont (length old) old numbered.below (omega (arith, next))
 
 -- a kid after x and a continuation after x
-pub hebrew_fork : (at x y kid cont : ℕ) (old mid new : List ℕ) → x ≡ at → y ≡ at → mid ≡ put_after x (kid ∷ []) old → new ≡ put_after y (cont ∷ []) mid → new ≡ put_after at (cont ∷ kid ∷ []) old
+pub hebrew_fork : (at x y kid cont : ℕ) (old mid new : List ℕ) → x ≡ at → y ≡ at → mid ≡ put_after x (kid ∷ []) old → new ≡ put_after y (cont ∷ []) mid
+    → new ≡ put_after at (cont ∷ kid ∷ []) old
 hebrew_fork at x y kid cont old mid new x_is y_is mid_is new_is =
     let first : mid ≡ put_after at (kid ∷ []) old = mid_is ∙ ap (λ v. put_after v (kid ∷ []) old) x_is in
     let second : new ≡ put_after at (cont ∷ []) mid = new_is ∙ ap (λ v. put_after v (cont ∷ []) mid) y_is in

@@ -5,7 +5,8 @@ use Rattle.access_shards.specs.Kept.{all_kept}
 use Rattle.access_shards.specs.Finding.{FindsLast}
 use Rattle.strand_laws.proofs.Places.{among_left, among_right}
 use Rattle.order_list.proofs.Frames.{asked_again}
-use Rattle.access_shards.proofs.Looking.{no_access, at_place, moved_on, look_step, looks_at}
+use Rattle.fut_base.proofs.Members.{at_place}
+use Rattle.access_shards.proofs.Looking.{no_access, moved_on, look_step, looks_at}
 use Rattle.access_shards.proofs.finding.last_unreached.Goals as goal
 
 pub unreached_writer-requires-clause-writer_known : goal.unreached_writer-requires-clause-writer_known
@@ -36,10 +37,12 @@ loop-reader-preserved g c =
     let a = get_or readers at no_access in
     let writer = option_to_list c.args.writer in
     let longer = ap (λ l. writer ++ l) (take_more readers at _ c.loop-reader-test.true) ∙ sym (append_assoc writer (take at readers) (a ∷ [])) in
-    let looks = looks_at c.args.reach.now c.args.at _ _ _ _ _ _ a c.loop-reader.found next i.judge.known i.judge.english i.judge.hebrew c.in_ok-found-2.ensures.looks in
+    let looks = looks_at c.args.reach.now c.args.at _ _ _ _ _ _ a c.loop-reader.found next i.judge.known i.judge.english i.judge.hebrew
+    c.in_ok-found-2.ensures.looks in
     let finds = look_step c.args.reach.now c.args.at _ _ _ (all_kept c.args.writer (take at readers)) a c.loop-reader.found next i.finds looks in
     record {
-      finds = subst (λ l. FindsLast c.args.reach.now c.args.at (g.J.Judge.known first) (g.J.Judge.english first) (g.J.Judge.hebrew first) l next) (sym longer) finds;
+      finds = subst (λ l. FindsLast c.args.reach.now c.args.at (g.J.Judge.known first) (g.J.Judge.english first)
+          (g.J.Judge.hebrew first) l next) (sym longer) finds;
       asks = λ one. (let x = i.asks one in let y = e.asks one in omega (arith, x, y));
       judge = asked_again g.J.Judge i.judge e.judge;
     }

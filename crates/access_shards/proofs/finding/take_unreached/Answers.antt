@@ -3,7 +3,8 @@ use Rattle.fut_base.specs.Dag.{Among}
 use Rattle.std.proofs.lemmas.List.{take_more}
 use Rattle.access_shards.specs.Finding.{FindsApart}
 use Rattle.order_list.proofs.Frames.{asked_again}
-use Rattle.access_shards.proofs.Looking.{no_access, at_place, moved_on, keep_step, keeps_at}
+use Rattle.fut_base.proofs.Members.{at_place}
+use Rattle.access_shards.proofs.Looking.{no_access, moved_on, keep_step, keeps_at}
 use Rattle.access_shards.proofs.finding.take_unreached.Goals as goal
 
 pub keep_unreached-requires-clause-access_known : goal.keep_unreached-requires-clause-access_known
@@ -27,7 +28,8 @@ loop-reader-preserved g c =
     let keeps = keeps_at c.args.reach.now c.args.at _ _ _ _ _ _ a old new i.judge.known i.judge.english i.judge.hebrew c.in_default.ensures.keeps in
     let finds = keep_step c.args.reach.now c.args.at _ _ _ (take at readers) a old new i.finds keeps in
     record {
-      finds = subst (λ l. FindsApart c.args.reach.now c.args.at (g.J.Judge.known first) (g.J.Judge.english first) (g.J.Judge.hebrew first) l new) (sym (take_more readers at _ c.loop-reader-test.true)) finds;
+      finds = subst (λ l. FindsApart c.args.reach.now c.args.at (g.J.Judge.known first) (g.J.Judge.english first) (g.J.Judge.hebrew first) l new)
+          (sym (take_more readers at _ c.loop-reader-test.true)) finds;
       those = λ b h. elim (e.adds b h) [
         | inl l ↦ i.those b l
         | inr q ↦ subst (λ z. Among z readers) q (at_place readers at _ c.loop-reader-test.true)

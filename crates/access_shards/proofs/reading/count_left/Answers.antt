@@ -2,7 +2,8 @@ use Rattle.std.proofs.Common.{rules, ◌-◌, arith}
 use Rattle.std.proofs.lemmas.Result.{err_from_is_err_and}
 use Rattle.order_list.specs.Frames.{IsAsBefore}
 use Rattle.order_list.proofs.Frames.{asked_again}
-use Rattle.access_shards.proofs.Looking.{no_access, at_place, moved_on}
+use Rattle.fut_base.proofs.Members.{at_place}
+use Rattle.access_shards.proofs.Looking.{no_access, moved_on}
 use Rattle.access_shards.proofs.Rising.{drops_more, drops_end}
 use Rattle.access_shards.proofs.reading.count_left.Goals as goal
 

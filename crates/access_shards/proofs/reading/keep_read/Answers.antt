@@ -32,7 +32,9 @@ returns-then-later-2-clause-keeps g c =
     let K = g.J.Judge.known c.args.judge.now in
     let E = g.J.Judge.english c.args.judge.now in
     let H = g.J.Judge.hebrew c.args.judge.now in
-    keeps_all c.args.reach.now c.args.new K E H c.args.readers.now.items c.replace_all.new.readers.items c.args.rise c.in_ok-later.later c.in_ok-later.later c.requires.at_known c.requires.kept_known
+    keeps_all c.args.reach.now c.args.new K E H c.args.readers.now.items c.replace_all.new.readers.items c.args.rise c.in_ok-later.later c.in_ok-later.later
+    c.requires.at_known c.requires.kept_known
     (λ y. (let k = c.in_ok-later.ensures.tells y in (k.0, subst (λ (l : List Access). EndsBefore E c.args.new.strand l) c.as_slice.ensures.value k.1)))
     (λ y. inl y)
-    (all_at c.args.reach.now c.args.new K E H c.args.readers.now.items c.replace_all.new.readers.items _ _ _ e.known e.english e.hebrew c.in_ok-replace_all.ensures.keeps)
+    (all_at c.args.reach.now c.args.new K E H c.args.readers.now.items c.replace_all.new.readers.items _ _ _ e.known e.english e.hebrew
+    c.in_ok-replace_all.ensures.keeps)

@@ -6,7 +6,8 @@ use Rattle.access_shards.proofs.Rising.{among_one_more}
 use Rattle.access_shards.proofs.reading.replace_all.Goals as goal
 
 pub take_unreached-requires-clause-kept_known : goal.take_unreached-requires-clause-kept_known
-take_unreached-requires-clause-kept_known g c = subst (λ l. AllOnKnown (g.J.Judge.known c.args.judge.now) l) (sym c.as_slice.ensures.value) c.requires.kept_known
+take_unreached-requires-clause-kept_known g c = subst (λ l. AllOnKnown (g.J.Judge.known c.args.judge.now) l)
+    (sym c.as_slice.ensures.value) c.requires.kept_known
 
 pub returns-clause-those : goal.returns-clause-those
 returns-clause-those g c =

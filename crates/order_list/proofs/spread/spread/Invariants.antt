@@ -4,4 +4,5 @@ use Rattle.order_list.proofs.Spreading.{IsSpreading}
 use Rattle.order_list.proofs.spread.spread.Given as goal
 
 abbrev pub invariant-loop-k : goal.invariant-loop-k
-invariant-loop-k l = (items rest : List ℕ) → IsRoute l.fn.labels l.nexts l.window items rest → IsSpreading l.fn.labels l.nexts l.window items rest l.labels l.k l.label l.at
+invariant-loop-k l = (items rest : List ℕ) → IsRoute l.fn.labels l.nexts l.window items rest → IsSpreading l.fn.labels l.nexts l.window items
+    rest l.labels l.k l.label l.at

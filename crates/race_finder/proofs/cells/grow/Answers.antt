@@ -9,5 +9,13 @@ loop-alloc-preserved c =
     let items = c.in_ok-push.ensures.items in
     record {
       cells = λ h a. subst (AreLogsOf h) (sym items) (logs_push h c.loop-alloc.logs.items c.make.result c.make.ensures.log (i.cells h a));
-      few = λ most le lt. (let k = i.few most le lt in omega (arith, k, lt, c.in_ok-push.ensures.len, c.loop-alloc-test.true, c.push.new.self.ok.0, c.loop-alloc.logs.ok.0));
+      few = λ most le lt. (let k = i.few most le lt in omega (
+        arith,
+        k,
+        lt,
+        c.in_ok-push.ensures.len,
+        c.loop-alloc-test.true,
+        c.push.new.self.ok.0,
+        c.loop-alloc.logs.ok.0,
+      ));
     }

@@ -14,7 +14,11 @@ loop-cell-preserved c =
     let races = c.loop-cell.races.items in
     elim c.match-kept.branch [
       | in-Found+in_ok-push w ↦
-          report_found logs i races c.match-kept.races.items l (record { cell = i; first = w.in-Found.first; second = w.in-Found.second }) at (sym c.kept.ensures ∙ w.in-Found.is) refl
+          report_found logs i races c.match-kept.races.items l (record {
+            cell = i;
+            first = w.in-Found.first;
+            second = w.in-Found.second;
+          }) at (sym c.kept.ensures ∙ w.in-Found.is) refl
           (ap (λ v. v.items) w.races-is ∙ w.in_ok-push.ensures.items) c.loop-cell.invariant
       | in_default w ↦
           subst (λ rs. IsReportUpTo logs (i + 1) rs) (sym (ap (λ v. v.items) w.races-is))
@@ -22,4 +26,5 @@ loop-cell-preserved c =
     ]
 
 pub returns : goal.returns
-returns c = λ h a. subst (λ rs. IsReport h rs) (sym (ap (λ v. v.items) c.from_vec.ensures)) (report_done h c.args.logs.now c.loop-cell.cell c.loop-cell.races.items (omega arith) c.loop-cell.invariant a)
+returns c = λ h a. subst (λ rs. IsReport h rs) (sym (ap (λ v. v.items) c.from_vec.ensures))
+    (report_done h c.args.logs.now c.loop-cell.cell c.loop-cell.races.items (omega arith) c.loop-cell.invariant a)

@@ -13,6 +13,7 @@ returns-clause-creates c = λ s task code args sound orders of.
       orders = c.create.ensures.extends s task code args orders;
       acting = creator s task code c.args.child kid.number cont.number args d.at.number d of sound cont refl (b.1 sound of.strand)
           (after_create d.reach s task d.at.number code c.args.child kid.number cont.number args sound of.table);
-      made = created s task code c.args.child kid.number cont.number args d.at.number d of sound kid c.in_ok-reach.reach c.make.result refl (b.0 sound of.strand)
+      made = created s task code c.args.child kid.number cont.number args d.at.number d of sound kid c.in_ok-reach.reach
+          c.make.result refl (b.0 sound of.strand)
           (c.in_ok-reach.ensures.after_create s task code c.args.child kid.number cont.number args sound of.strand of.table) (ap (λ l. l.items) c.make.ensures);
     }

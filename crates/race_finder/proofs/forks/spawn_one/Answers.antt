@@ -16,6 +16,8 @@ returns-clause-spawns c = λ s task code args sound orders of.
     record {
       orders = c.spawn.ensures.extends s task code c.args.child args orders;
       acting = spawner s task code c.args.child kid.number cont.number args d.at.number d of sound cont c.push.new.self refl (b.1 sound of.strand)
-          (subst (HasTable longer cont.number) c.in_ok-reach.ensures.same tables.1) (c.push.ensures.items ∙ ap (λ l. l ++ c.args.child ∷ []) c.reserve.ensures.items);
-      made = spawned s task code c.args.child kid.number cont.number args d.at.number d of sound kid c.in_ok-reach.reach c.make.result refl (b.0 sound of.strand) tables.0 (ap (λ l. l.items) c.make.ensures);
+          (subst (HasTable longer cont.number) c.in_ok-reach.ensures.same tables.1)
+          (c.push.ensures.items ∙ ap (λ l. l ++ c.args.child ∷ []) c.reserve.ensures.items);
+      made = spawned s task code c.args.child kid.number cont.number args d.at.number d of sound kid c.in_ok-reach.reach c.make.result refl
+          (b.0 sound of.strand) tables.0 (ap (λ l. l.items) c.make.ensures);
     }

@@ -10,7 +10,8 @@ bounds-doers-child c =
     let doers = c.args.doers.now in
     let d = c.index-doers-task.result in
     let some = c.requires.some in
-    (block_at some.0 c.args.places.now doers c.args.task d 0 c.in-Some.child.now some.1 (slice_get_read doers (length doers) c.args.task d refl c.requires.task_in c.index-doers-task.is) (sym c.in-Some.ensures)).1
+    (block_at some.0 c.args.places.now doers c.args.task d 0 c.in-Some.child.now some.1
+    (slice_get_read doers (length doers) c.args.task d refl c.requires.task_in c.index-doers-task.is) (sym c.in-Some.ensures)).1
 
 pub returns-clause-last : goal.returns-clause-last
 returns-clause-last c = λ s may.
@@ -40,4 +41,5 @@ returns-in_default-clause-last c = λ s may.
     let doers = c.args.doers.now in
     let d = c.index-doers-task.result in
     let at = slice_get_read doers (length doers) c.args.task d refl c.requires.task_in c.index-doers-task.is in
-    subst (λ block. IsLastOf (reverse s) block None) (may.of.tasks.each c.args.task d at).block_is (first_none (reverse s) d.block.items (sym c.in_default.ensures))
+    subst (λ block. IsLastOf (reverse s) block None) (may.of.tasks.each c.args.task d at).block_is
+    (first_none (reverse s) d.block.items (sym c.in_default.ensures))

@@ -8,5 +8,6 @@ returns-clause-gets c = λ s task future value sound orders of table.
     let at = c.get-doer.result in
     record {
       orders = c.get-doer.ensures.extends s task future value orders;
-      acting = getter s task d.at.number at.number d of at refl c.args.reach future value sound (c.get-doer.ensures.belongs s task future value sound of.strand) table;
+      acting = getter s task d.at.number at.number d of at refl c.args.reach future value sound
+          (c.get-doer.ensures.belongs s task future value sound of.strand) table;
     }

@@ -8,5 +8,6 @@ returns-clause-syncs c = λ s task sound orders of last table.
     let at = c.sync-doer.result in
     record {
       orders = c.sync-doer.ensures.extends s task last orders;
-      acting = syncer s task d.at.number at.number d of at refl c.args.reach sound c.make.result (ap (λ l. l.items) c.make.ensures) (c.sync-doer.ensures.belongs s task sound of.strand) table;
+      acting = syncer s task d.at.number at.number d of at refl c.args.reach sound c.make.result (ap (λ l. l.items) c.make.ensures)
+          (c.sync-doer.ensures.belongs s task sound of.strand) table;
     }

@@ -32,5 +32,6 @@ returns c = IfOk-weaker c.merged.result _ _ (λ table after. λ s value strand d
     let ot = slice_get_read doers (length doers) c.args.future o refl c.requires.future_in c.index-doers-future.is in
     let is : d ≡ d' = same (sym at ∙ at') in
     subst (λ (x : Doer). HasTable (and_then s c.args.task x.at.number (Gets c.args.future value strand)) strand table) is
-    (got_table s c.args.places.now doers c.lists.result.now of c.lists.ensures.english c.lists.ensures.hebrew c.args.task c.args.future d o table value strand at ot after
+    (got_table s c.args.places.now doers c.lists.result.now of c.lists.ensures.english c.lists.ensures.hebrew c.args.task c.args.future d o
+    table value strand at ot after
     (subst (λ (x : Doer). IsSound (and_then s c.args.task x.at.number (Gets c.args.future value strand))) (sym is) sound))) c.merged.ensures.after_get

@@ -13,7 +13,8 @@ same : {a b : Doer} → Some a ≡ Some b → a ≡ b
 same {a} {b} e = cc
 
 pub loop-child-init : goal.loop-child-init
-loop-child-init c = λ s may at. merged_none s c.args.places.now c.args.doers.now c.args.task c.index-doers-task.result c.in_ok-reach.reach c.in_ok-reach.ensures.same may at
+loop-child-init c = λ s may at. merged_none s c.args.places.now c.args.doers.now c.args.task c.index-doers-task.result c.in_ok-reach.reach
+    c.in_ok-reach.ensures.same may at
 
 pub bounds-doers-child : goal.bounds-doers-child
 bounds-doers-child c =
@@ -24,7 +25,8 @@ bounds-doers-child c =
     let items = c.as_slice-child-items.ensures in
     let n = ap (length {A = ℕ}) items in
     let at = slice_get_read doers (length doers) c.args.task d refl c.requires.task_in c.index-doers-task.is in
-    (block_child some.0 c.args.places.now doers c.args.task d i (get_or c.as_slice-child-items.result.now i 0) some.1 at (omega (arith, n)) (ap (λ l. get_or l i 0) items)).1
+    (block_child some.0 c.args.places.now doers c.args.task d i (get_or c.as_slice-child-items.result.now i 0) some.1 at (omega (arith, n))
+    (ap (λ l. get_or l i 0) items)).1
 
 pub merged-requires : goal.merged-requires
 merged-requires c =
@@ -38,7 +40,8 @@ merged-requires c =
     let child = get_or c.as_slice-child-items.result.now i 0 in
     let at = slice_get_read doers (length doers) c.args.task d refl c.requires.task_in c.index-doers-task.is in
     let b = block_child some.0 c.args.places.now doers c.args.task d i child some.1 at (omega (arith, n)) (ap (λ l. get_or l i 0) items) in
-    merged_known some.0 c.args.places.now doers c.lists.result.now some.1.of c.lists.ensures.english c.lists.ensures.hebrew d.at.future (d.at.number ∷ lasts_of (reverse some.0) (take i d.block.items)) c.loop-child.reach child o
+    merged_known some.0 c.args.places.now doers c.lists.result.now some.1.of c.lists.ensures.english c.lists.ensures.hebrew d.at.future
+    (d.at.number ∷ lasts_of (reverse some.0) (take i d.block.items)) c.loop-child.reach child o
     (c.loop-child.invariant some.0 some.1 at) (slice_get_read doers (length doers) child o refl b.1 c.index-doers-child.is)
 
 pub loop-child-preserved : goal.loop-child-preserved
@@ -52,8 +55,10 @@ loop-child-preserved c = λ s may at.
     let child = get_or c.as_slice-child-items.result.now i 0 in
     let is = ap (λ l. get_or l i 0) items in
     let b = block_child s c.args.places.now doers c.args.task d i child may at (omega (arith, n)) is in
-    merged_more s c.args.places.now doers c.lists.result.now may.of c.lists.ensures.english c.lists.ensures.hebrew c.args.task i child d o c.loop-child.reach c.in_ok-reach-2.reach at
-    (slice_get_read doers (length doers) child o refl b.1 c.index-doers-child.is) (omega (arith, n)) is b.0 c.in_ok-reach-2.ensures.one_more (c.loop-child.invariant s may at)
+    merged_more s c.args.places.now doers c.lists.result.now may.of c.lists.ensures.english c.lists.ensures.hebrew c.args.task i child d o
+    c.loop-child.reach c.in_ok-reach-2.reach at
+    (slice_get_read doers (length doers) child o refl b.1 c.index-doers-child.is) (omega (arith, n)) is b.0 c.in_ok-reach-2.ensures.one_more
+    (c.loop-child.invariant s may at)
 
 pub returns : goal.returns
 returns c = λ s d' may at'.
@@ -64,6 +69,7 @@ returns c = λ s d' may at'.
     let n = ap (length {A = ℕ}) c.as_slice-child-items.ensures in
     let at = slice_get_read doers (length doers) c.args.task d refl c.requires.task_in c.index-doers-task.is in
     let is : d ≡ d' = same (sym at ∙ at') in
-    let whole : take i d.block.items ≡ block_of (reverse s) c.args.task = take_all i d.block.items (omega (arith, n)) ∙ (may.of.tasks.each c.args.task d at).block_is in
+    let whole : take i d.block.items ≡ block_of (reverse s) c.args.task = take_all i d.block.items (omega (arith, n)) ∙ (may.of.tasks.each
+    c.args.task d at).block_is in
     subst (λ (x : Doer). IsMergedOf s x.at.future (x.at.number ∷ lasts_of (reverse s) (block_of (reverse s) c.args.task)) reach) is
     (subst (λ l. IsMergedOf s d.at.future (d.at.number ∷ lasts_of (reverse s) l) reach) whole (c.loop-child.invariant s may at))

@@ -7,5 +7,6 @@ pub loop-pair-preserved : goal.loop-pair-preserved
 loop-pair-preserved c =
     let none : Pair = record { english = record { 0 = 0 }; hebrew = record { 0 = 0 } } in
     let e = c.insert.ensures in
-    next_put c.loop-pair.lists c.insert.new.self c.args.placed.now c.args.capacity c.loop-pair.pair-index c.insert.result.0 none (omega arith) c.loop-pair.invariant
+    next_put c.loop-pair.lists c.insert.new.self c.args.placed.now c.args.capacity c.loop-pair.pair-index c.insert.result.0 none
+    (omega arith) c.loop-pair.invariant
     (record { english = e.english; hebrew = e.hebrew; was = e.was_kept; now = e.kept })

@@ -10,12 +10,17 @@ pub take-requires : goal.take-requires
 take-requires c =
     let xs = c.args.entries.now in
     let i = c.loop-entry.entry-index in
-    let few = taken_few xs i in
-    (map event_of (take i xs), c.loop-entry.invariant, steps_to xs i c.entry-item.result (omega arith) c.entry-item.is c.requires.steps, omega (arith, few, c.requires.few))
+    let few = taken_few xs i in (
+      map event_of (take i xs),
+      c.loop-entry.invariant,
+      steps_to xs i c.entry-item.result (omega arith) c.entry-item.is c.requires.steps,
+      omega (arith, few, c.requires.few),
+    )
 
 pub loop-entry-preserved : goal.loop-entry-preserved
 loop-entry-preserved c =
     let xs = c.args.entries.now in
     let i = c.loop-entry.entry-index in
     subst (λ (h : List Event). IsFinderOf h c.take.new.self) (sym (taken_more xs i c.entry-item.result (omega arith) c.entry-item.is))
-    (c.in_ok-take.ensures.takes (map event_of (take i xs)) c.loop-entry.invariant (steps_to xs i c.entry-item.result (omega arith) c.entry-item.is c.requires.steps))
+    (c.in_ok-take.ensures.takes (map event_of (take i xs)) c.loop-entry.invariant
+    (steps_to xs i c.entry-item.result (omega arith) c.entry-item.is c.requires.steps))

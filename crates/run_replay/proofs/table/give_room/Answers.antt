@@ -1,11 +1,11 @@
 use Rattle.std.proofs.Common.{◌≡◌, ◌<◌, ◌∙◌, ap, refl, sym, subst, length, false}
 use Rattle.std.specs.Prelude.{slice_get, slice_set, Some}
 use Rattle.std.proofs.lemmas.Option.{slice_get_read, same_Some}
+use Rattle.std.proofs.lemmas.Result.{on_ok_weaker}
 use Rattle.task_code.specs.Tasks.{IsStill}
 use Rattle.run_replay.specs.declared.line.Line.{Line}
 use Rattle.run_replay.specs.Replays.{HasRoom, StillAt}
 use Rattle.run_replay.proofs.Lining.{same_at, get_set_here}
-use Rattle.run_replay.proofs.Outcome.{on_ok}
 use Rattle.run_replay.proofs.table.give_room.Goals as goal
 
 pub returns-in_err-reserve-clause-same : goal.returns-in_err-reserve-clause-same
@@ -32,7 +32,7 @@ returns-clause-room c =
     let lines = c.reserve.new.self.items in
     let t = c.args.place in
     let here : t < length lines = subst (λ (xs : _). t < length xs) (sym c.reserve.ensures.items) c.requires.exists in
-    on_ok _ (HasRoom c.make_room.new.line) _ (λ x. (c.make_room.new.line, get_set_here lines t c.make_room.new.line here, x)) c.make_room.ensures.room
+    on_ok_weaker {P = (HasRoom c.make_room.new.line)} _ (λ x. (c.make_room.new.line, get_set_here lines t c.make_room.new.line here, x)) c.make_room.ensures.room
 
 pub returns-in_err-reserve-clause-still : goal.returns-in_err-reserve-clause-still
 returns-in_err-reserve-clause-still c = λ st. subst (λ xs. StillAt c.args.code.now xs c.args.place) (sym c.reserve.ensures.items) st

@@ -8,16 +8,20 @@ use Rattle.access_shards.proofs.log.CellLog.read.Goals as goal
 
 pub unreached_writer-requires-clause-writer_known : goal.unreached_writer-requires-clause-writer_known
 unreached_writer-requires-clause-writer_known g c =
-    known_writer (g.J.Judge.known c.args.judge.now) c.args.self.now.kept c.in-Clean.writer c.in-Clean.readers (ap (λ v. v.kept) (sym c.self.view_is) ∙ c.in-Clean.is) c.requires.kept_known
+    known_writer (g.J.Judge.known c.args.judge.now) c.args.self.now.kept c.in-Clean.writer c.in-Clean.readers
+    (ap (λ v. v.kept) (sym c.self.view_is) ∙ c.in-Clean.is) c.requires.kept_known
 
 pub returns-in-Some-clause-kept : goal.returns-in-Some-clause-kept
 returns-in-Some-clause-kept g c =
-    read_finds c.args.reach.now c.args.at c.args.place _ _ _ c.args.self.now c.in-Clean.writer c.in-Clean.readers (ap (λ v. v.kept) (sym c.self.view_is) ∙ c.in-Clean.is) _ c.in-Some.first _
-    (subst (λ o. FindsLast c.args.reach.now c.args.at (g.J.Judge.known c.args.judge.now) (g.J.Judge.english c.args.judge.now) (g.J.Judge.hebrew c.args.judge.now) (option_to_list c.in-Clean.writer) o) c.in-Some.is c.in_ok-first.ensures.finds)
+    read_finds c.args.reach.now c.args.at c.args.place _ _ _ c.args.self.now c.in-Clean.writer c.in-Clean.readers
+    (ap (λ v. v.kept) (sym c.self.view_is) ∙ c.in-Clean.is) _ c.in-Some.first _
+    (subst (λ o. FindsLast c.args.reach.now c.args.at (g.J.Judge.known c.args.judge.now) (g.J.Judge.english c.args.judge.now)
+    (g.J.Judge.hebrew c.args.judge.now) (option_to_list c.in-Clean.writer) o) c.in-Some.is c.in_ok-first.ensures.finds)
 
 pub keep_read-requires-clause-kept_known : goal.keep_read-requires-clause-kept_known
 keep_read-requires-clause-kept_known g c = λ a h.
-    let k = known_readers (g.J.Judge.known c.args.judge.now) c.args.self.now.kept c.in-Clean.writer c.in-Clean.readers (ap (λ v. v.kept) (sym c.self.view_is) ∙ c.in-Clean.is) c.requires.kept_known a h in
+    let k = known_readers (g.J.Judge.known c.args.judge.now) c.args.self.now.kept c.in-Clean.writer c.in-Clean.readers
+    (ap (λ v. v.kept) (sym c.self.view_is) ∙ c.in-Clean.is) c.requires.kept_known a h in
     omega (arith, k, c.unreached_writer.ensures.judge.known)
 
 pub returns-in_err-self-inside-clause-moved : goal.returns-in_err-self-inside-clause-moved
@@ -31,12 +35,15 @@ returns-clause-kept g c =
     let K = g.J.Judge.known c.args.judge.now in
     let E = g.J.Judge.english c.args.judge.now in
     let H = g.J.Judge.hebrew c.args.judge.now in
-    read_keeps c.args.reach.now c.args.at c.args.place K E H c.args.self.now c.in-Clean.writer c.in-Clean.readers (ap (λ v. v.kept) (sym c.self.view_is) ∙ c.in-Clean.is) _
+    read_keeps c.args.reach.now c.args.at c.args.place K E H c.args.self.now c.in-Clean.writer c.in-Clean.readers
+    (ap (λ v. v.kept) (sym c.self.view_is) ∙ c.in-Clean.is) _
     (subst (λ o. FindsLast c.args.reach.now c.args.at K E H (option_to_list c.in-Clean.writer) o) c.in_default-2.is c.in_ok-first.ensures.finds)
     c.keep_read.new.readers c.in_ok-self-inside.field-0
-    (read_at c.args.reach.now (record { place = c.args.place; strand = c.args.at }) K E H c.in-Clean.readers.items c.keep_read.new.readers.items _ _ _ c.args.self.now.rise c.self.inside.rise c.in_ok-self-inside.field-0
+    (read_at c.args.reach.now (record { place = c.args.place; strand = c.args.at }) K E H c.in-Clean.readers.items c.keep_read.new.readers.items _ _ _
+    c.args.self.now.rise c.self.inside.rise c.in_ok-self-inside.field-0
     e.known e.english e.hebrew (ap (λ v. v.rise) c.self.view_is) c.in_ok-self-inside.ensures.keeps)
 
 pub returns-clause-strands : goal.returns-clause-strands
 returns-clause-strands g c =
-    strands_stay c.args.at c.args.place c.args.self.now.kept c.in-Clean.writer c.in-Clean.readers c.keep_read.new.readers (ap (λ v. v.kept) (sym c.self.view_is) ∙ c.in-Clean.is) c.keep_read.ensures.those
+    strands_stay c.args.at c.args.place c.args.self.now.kept c.in-Clean.writer c.in-Clean.readers c.keep_read.new.readers
+    (ap (λ v. v.kept) (sym c.self.view_is) ∙ c.in-Clean.is) c.keep_read.ensures.those

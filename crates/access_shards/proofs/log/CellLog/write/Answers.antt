@@ -8,14 +8,16 @@ use Rattle.access_shards.proofs.log.CellLog.write.Goals as goal
 pub last_unreached-requires-clause-kept_known : goal.last_unreached-requires-clause-kept_known
 last_unreached-requires-clause-kept_known g c =
     subst (λ l. AllOnKnown (g.J.Judge.known c.args.judge.now) (all_kept c.in-Clean.writer l)) (sym c.as_slice.ensures.value)
-    (known_all (g.J.Judge.known c.args.judge.now) c.args.self.now.kept c.in-Clean.writer c.in-Clean.readers (ap (λ v. v.kept) (sym c.self.view_is) ∙ c.in-Clean.is) c.requires.kept_known)
+    (known_all (g.J.Judge.known c.args.judge.now) c.args.self.now.kept c.in-Clean.writer c.in-Clean.readers
+    (ap (λ v. v.kept) (sym c.self.view_is) ∙ c.in-Clean.is) c.requires.kept_known)
 
 pub returns-in-Some-clause-kept : goal.returns-in-Some-clause-kept
 returns-in-Some-clause-kept g c =
     let K = g.J.Judge.known c.args.judge.now in
     let E = g.J.Judge.english c.args.judge.now in
     let H = g.J.Judge.hebrew c.args.judge.now in
-    write_finds c.args.reach.now c.args.at c.args.place K E H c.args.self.now c.in-Clean.writer c.in-Clean.readers (ap (λ v. v.kept) (sym c.self.view_is) ∙ c.in-Clean.is) _ c.in-Some.first _
+    write_finds c.args.reach.now c.args.at c.args.place K E H c.args.self.now c.in-Clean.writer c.in-Clean.readers
+    (ap (λ v. v.kept) (sym c.self.view_is) ∙ c.in-Clean.is) _ c.in-Some.first _
     (subst (λ l. FindsLast c.args.reach.now c.args.at K E H (all_kept c.in-Clean.writer l) (Some c.in-Some.first)) c.as_slice.ensures.value
     (subst (λ o. FindsLast c.args.reach.now c.args.at K E H (all_kept c.in-Clean.writer c.as_slice.result.now) o) c.in-Some.is c.in_ok-first.ensures.finds))
 
@@ -24,7 +26,9 @@ returns-clause-kept g c =
     let K = g.J.Judge.known c.args.judge.now in
     let E = g.J.Judge.english c.args.judge.now in
     let H = g.J.Judge.hebrew c.args.judge.now in
-    write_keeps c.args.reach.now c.args.at c.args.place K E H c.args.self.now c.in-Clean.writer c.in-Clean.readers (ap (λ v. v.kept) (sym c.self.view_is) ∙ c.in-Clean.is) _
+    write_keeps c.args.reach.now c.args.at c.args.place K E H c.args.self.now c.in-Clean.writer c.in-Clean.readers
+    (ap (λ v. v.kept) (sym c.self.view_is) ∙ c.in-Clean.is) _
     (subst (λ l. FindsLast c.args.reach.now c.args.at K E H (all_kept c.in-Clean.writer l) None) c.as_slice.ensures.value
-    (subst (λ o. FindsLast c.args.reach.now c.args.at K E H (all_kept c.in-Clean.writer c.as_slice.result.now) o) c.in_default-2.is c.in_ok-first.ensures.finds))
+    (subst (λ o. FindsLast c.args.reach.now c.args.at K E H (all_kept c.in-Clean.writer c.as_slice.result.now) o) c.in_default-2.is
+    c.in_ok-first.ensures.finds))
     c.new.result c.new.ensures.items _

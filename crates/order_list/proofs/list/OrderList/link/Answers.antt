@@ -10,11 +10,15 @@ lead_back-requires c = λ y is.
     let l = c.self.inside in
     let P : Ordered → Type 0 = λ v. c.args.x.0 < length v.order in
     let Q : Option ℕ → Type 0 = λ o. IfSome o (λ z. z < length l.nexts.items) in
-    let next = next_read l.labels.items l.nexts.items l.prevs.items _ c.args.x.0 c.index-next.result.now c.self.invariant.0 (subst P (sym c.self.view_is) c.requires.x_in) c.index-next.ensures in
+    let next = next_read l.labels.items l.nexts.items l.prevs.items _ c.args.x.0 c.index-next.result.now c.self.invariant.0 (subst P (sym c.self.view_is)
+    c.requires.x_in) c.index-next.ensures in
     let below : y < length l.nexts.items = subst Q is next.below in
     omega (arith, below, c.self.invariant.0.prev_count, l.prevs.ok.0, c.push_reserved-3.ensures.len)
 
-linked : (c : goal.After-self-2-1) → IsLinked c.push_reserved.new.self.items (slice_set c.push_reserved-2.new.self.items c.args.x.0 (Some c.len-item.result)) c.lead_back.new.prevs.items c.push_reserved-2.new.self.len (put_after c.args.x.0 (c.len-item.result ∷ []) (walk c.self.inside.nexts.items (vec_len c.self.inside.nexts) (Some 0)))
+linked : (c : goal.After-self-2-1)
+    → IsLinked c.push_reserved.new.self.items (slice_set c.push_reserved-2.new.self.items c.args.x.0 (Some c.len-item.result))
+    c.lead_back.new.prevs.items c.push_reserved-2.new.self.len
+    (put_after c.args.x.0 (c.len-item.result ∷ []) (walk c.self.inside.nexts.items (vec_len c.self.inside.nexts) (Some 0)))
 linked c =
     let l = c.self.inside in
     let P : Ordered → Type 0 = λ v. c.args.x.0 < length v.order in
@@ -22,9 +26,12 @@ linked c =
     let R : Ordered → Type 0 = λ v. c.args.label < high_of v c.args.x.0 in
     let back = sym c.self.view_is in
     let l_ok : vec_len l.nexts ≡ length l.nexts.items = omega (arith, l.nexts.ok.0) in
-    subst (λ ps. IsLinked c.push_reserved.new.self.items (slice_set c.push_reserved-2.new.self.items c.args.x.0 (Some c.len-item.result)) ps c.push_reserved-2.new.self.len (put_after c.args.x.0 (c.len-item.result ∷ []) (walk c.self.inside.nexts.items (vec_len c.self.inside.nexts) (Some 0)))) (sym c.lead_back.ensures.items)
+    subst (λ ps. IsLinked c.push_reserved.new.self.items (slice_set c.push_reserved-2.new.self.items c.args.x.0 (Some c.len-item.result)) ps
+    c.push_reserved-2.new.self.len (put_after c.args.x.0 (c.len-item.result ∷ []) (walk c.self.inside.nexts.items (vec_len c.self.inside.nexts) (Some 0))))
+    (sym c.lead_back.ensures.items)
     (linked_in l.labels.items l.nexts.items l.prevs.items (vec_len l.nexts) _ c.args.x.0 c.args.label c.len-item.result c.index-next.result.now _ _ _
-    l_ok c.push_reserved-2.ensures.len c.len-item.ensures c.index-next.ensures c.push_reserved.ensures.items c.push_reserved-2.ensures.items c.push_reserved-3.ensures.items c.self.invariant.0
+    l_ok c.push_reserved-2.ensures.len c.len-item.ensures c.index-next.ensures c.push_reserved.ensures.items c.push_reserved-2.ensures.items
+    c.push_reserved-3.ensures.items c.self.invariant.0
     (subst P back c.requires.x_in) (subst Q back c.requires.low) (subst R back c.requires.high))
 
 room : (c : goal.After-self-2-1) → 1 ≤ c.self.inside.room
@@ -35,7 +42,15 @@ invariant_of-self c = (
   (linked c).keeps,
   omega (arith, c.push_reserved.ensures.len, c.push_reserved.ensures.capacity, c.self.invariant.1, room c),
   omega (arith, c.push_reserved-2.ensures.len, c.push_reserved-2.ensures.capacity, c.self.invariant.2, room c),
-  omega (arith, c.lead_back.ensures.len, c.lead_back.ensures.capacity, c.push_reserved-3.ensures.len, c.push_reserved-3.ensures.capacity, c.self.invariant.3, room c),
+  omega (
+    arith,
+    c.lead_back.ensures.len,
+    c.lead_back.ensures.capacity,
+    c.push_reserved-3.ensures.len,
+    c.push_reserved-3.ensures.capacity,
+    c.self.invariant.3,
+    room c,
+  ),
   omega (arith, c.push_reserved-2.ensures.len, c.self.invariant.4, room c),
 )
 

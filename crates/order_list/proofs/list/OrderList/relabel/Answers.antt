@@ -15,4 +15,5 @@ returns-clause-labels c =
     (subst (λ ns. P c.as_mut_slice.result.now ns (vec_len l.nexts)) c.as_slice.ensures.value
     (subst (λ n. P c.as_mut_slice.result.now c.as_slice.result.now n) c.as_slice.ensures.len c.relabel.ensures.spread)) in
     let same : (with_items l.labels labels).items ≡ labels = with_items_is l.labels labels (search rules) in
-    rw (← c.self.view_is) (subst (λ ls. IsSpread l.labels.items (walk l.nexts.items (vec_len l.nexts) (Some 0)) c.args.x.0 c.relabel.result ls) (sym same) spread)
+    rw (← c.self.view_is) (subst (λ ls. IsSpread l.labels.items (walk l.nexts.items (vec_len l.nexts) (Some 0)) c.args.x.0
+    c.relabel.result ls) (sym same) spread)

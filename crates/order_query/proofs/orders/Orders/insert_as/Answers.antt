@@ -20,7 +20,8 @@ show_windows-writer-inside-requires-clause-may g c =
       old,
       x,
       y,
-      may_show c.args.self.now seat.table_id seat.me old mid c.writer.inside.version x y c.make_space-windows.result c.writer.invariant home x_in y_in room made.was_kept made.kept made.english made.hebrew,
+      may_show c.args.self.now seat.table_id seat.me old mid c.writer.inside.version x y c.make_space-windows.result c.writer.invariant home x_in y_in room
+          made.was_kept made.kept made.english made.hebrew,
     )
 
 pub show_item-requires-clause-may : goal.show_item-requires-clause-may
@@ -39,8 +40,12 @@ show_item-requires-clause-may g c =
     let item = c.insert-item.result.0 in
     let e = c.insert-item.ensures in
     let s = c.show_windows-writer-inside.ensures in
-    let me2 = c.show_windows-writer-inside.new.seat.me in
-    (mid, subst (λ (i : Insert). MayCount c.args.self.now me2 new item i mid) (sym c.requires.insert) (may_count c.args.self.now seat.table_id seat.me old mid c.writer.inside.version x y c.make_space-windows.result c.writer.invariant home x_in y_in room made.was_kept made.kept made.english made.hebrew new item e.kept e.english e.hebrew me2 s.view s.size s.shown))
+    let me2 = c.show_windows-writer-inside.new.seat.me in (
+      mid,
+      subst (λ (i : Insert). MayCount c.args.self.now me2 new item i mid) (sym c.requires.insert)
+          (may_count c.args.self.now seat.table_id seat.me old mid c.writer.inside.version x y c.make_space-windows.result c.writer.invariant home x_in y_in
+          room made.was_kept made.kept made.english made.hebrew new item e.kept e.english e.hebrew me2 s.view s.size s.shown),
+    )
 
 pub invariant_of-writer : goal.invariant_of-writer
 invariant_of-writer g c =
@@ -61,4 +66,6 @@ invariant_of-writer g c =
     let me2 = c.show_windows-writer-inside.new.seat.me in
     let t = c.show_item.ensures in
     let log = t.log ∙ ap (λ (i : Insert). me2.0.log ++ i ∷ []) c.requires.insert in
-    is_writing c.args.self.now seat.table_id seat.me old mid c.writer.inside.version x y c.make_space-windows.result c.writer.invariant home x_in y_in room made.was_kept made.kept made.english made.hebrew new item e.kept e.english e.hebrew me2 s.view s.size s.shown c.show_item.new.seat.table_id c.show_item.new.seat.me c.show_windows-writer-inside.result (t.home ∙ s.home) t.alone t.writes t.size s.word t.version s.even s.most log t.shown
+    is_writing c.args.self.now seat.table_id seat.me old mid c.writer.inside.version x y c.make_space-windows.result c.writer.invariant home x_in y_in room
+    made.was_kept made.kept made.english made.hebrew new item e.kept e.english e.hebrew me2 s.view s.size s.shown c.show_item.new.seat.table_id
+    c.show_item.new.seat.me c.show_windows-writer-inside.result (t.home ∙ s.home) t.alone t.writes t.size s.word t.version s.even s.most log t.shown

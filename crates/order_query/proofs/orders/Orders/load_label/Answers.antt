@@ -12,5 +12,6 @@ load-requires-clause-rule g c =
     let id = c.args.seat.now.id in
     let word = c.args.word in
     let slots = c.args.self.now.slots in
-    let P : List (ℕ × Unit {0}) → Type 0 = λ taken. Allows OrderRule slots id (me.0, taken) word (λ n. n) (LoadedLabel (step slots word 0 0 none) (me.0, taken)) in
+    let P : List (ℕ × Unit {0}) → Type 0 = λ taken. Allows OrderRule slots id (me.0, taken) word (λ n. n) (LoadedLabel
+    (step slots word 0 0 none) (me.0, taken)) in
     subst P (sym c.requires.alone) (loads_label slots id word me.0 c.requires.reads c.requires.low c.requires.high)

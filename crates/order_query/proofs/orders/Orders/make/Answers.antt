@@ -7,4 +7,5 @@ use Rattle.order_query.proofs.orders.Orders.make.Goals as goal
 
 pub of_words-requires : goal.of_words-requires
 of_words-requires c =
-    subst (λ (ws : List ℕ). OrderRule (opening ws [] (first_writer (2 * (c.args.capacity - 1))))) (sym (c.as_slice.ensures.value ∙ c.in_ok-words.ensures)) (kept_first c.args.capacity c.requires)
+    subst (λ (ws : List ℕ). OrderRule (opening ws [] (first_writer (2 * (c.args.capacity - 1))))) (sym (c.as_slice.ensures.value ∙ c.in_ok-words.ensures))
+    (kept_first c.args.capacity c.requires)

@@ -41,7 +41,8 @@ count-requires-clause-may g c =
     let a_is = c.label.ensures ∙ ap (λ (l : Ordered). slice_index l.labels item) c.english.ensures.list in
     let b_is = c.label-2.ensures ∙ ap (λ (l : Ordered). slice_index l.labels item) c.hebrew.ensures.list in
     let ws = words_labelled home me lists item insert old k a b a_is b_is in
-    let is : c.store-2.new.seat.me ≡ (with_words me.0 ws, []) = stored_twice me c.store.new.seat.me c.store-2.new.seat.me (english_word item) (hebrew_word item) a b c.store.ensures.view c.store-2.ensures.view in
+    let is : c.store-2.new.seat.me ≡ (with_words me.0 ws, []) = stored_twice me c.store.new.seat.me c.store-2.new.seat.me (english_word item) (hebrew_word
+    item) a b c.store.ensures.view c.store-2.ensures.view in
     let P : Me (Unit {0}) View → Type 0 = λ m. IsPublished m.0.words m.0.log → MayWrite m.0.words m.0.log (slice_set m.0.words 1 n) (m.0.log ++ insert ∷ []) in
     let next : n ≡ length me.0.log + 2 = omega (arith, c.from.ensures, k.item_is) in
     let room : 2 * length me.0.log + 6 ≤ length ws = omega (arith, k.item_is, k.fits, k.size, labelled_size home me lists item insert old k a b a_is b_is) in
@@ -62,7 +63,9 @@ returns-clause-shown g c =
     let a_is = c.label.ensures ∙ ap (λ (l : Ordered). slice_index l.labels item) c.english.ensures.list in
     let b_is = c.label-2.ensures ∙ ap (λ (l : Ordered). slice_index l.labels item) c.hebrew.ensures.list in
     let ws = words_labelled home me lists item insert old k a b a_is b_is in
-    let is : c.store-2.new.seat.me ≡ (with_words me.0 ws, []) = stored_twice me c.store.new.seat.me c.store-2.new.seat.me (english_word item) (hebrew_word item) a b c.store.ensures.view c.store-2.ensures.view in
-    let all : c.count.new.seat.me ≡ (after_store (with_words me.0 ws) 1 n (me.0.log ++ insert ∷ []), []) = c.count.ensures.view ∙ ap (λ (m : Me (Unit {0}) View). (after_store m.0 1 n (m.0.log ++ insert ∷ []), [])) is in
+    let is : c.store-2.new.seat.me ≡ (with_words me.0 ws, []) = stored_twice me c.store.new.seat.me c.store-2.new.seat.me (english_word item) (hebrew_word
+    item) a b c.store.ensures.view c.store-2.ensures.view in
+    let all : c.count.new.seat.me ≡ (after_store (with_words me.0 ws) 1 n (me.0.log ++ insert ∷ []), []) = c.count.ensures.view
+    ∙ ap (λ (m : Me (Unit {0}) View). (after_store m.0 1 n (m.0.log ++ insert ∷ []), [])) is in
     subst (λ (m : Me (Unit {0}) View). ShowBoth m.0.words m.0.log lists) (sym all)
     (both_on ws 1 n (me.0.log ++ insert ∷ []) lists (omega arith) (shows_both home me lists item insert old k a b a_is b_is))

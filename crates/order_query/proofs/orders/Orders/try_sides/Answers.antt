@@ -41,8 +41,10 @@ returns-clause-stays g c =
     let is : Result Sides Moved → Type 0 = λ result. IfOk result (λ sides. AreSidesFrom sides c.args.x.0 c.args.y.0 c.args.reader.now.log) in
     elim c.if-first-second.branch [
       | then-first-second w ↦ subst is (sym w.result-is)
-          (asked_sides c.reader.inside.seat.me.0 c.args.reader.now.log c.load_version-first.result c.load_version-second.result c.args.x.0 c.args.y.0 c.load_label-english_x.result c.load_label-english_y.result c.load_label-hebrew_x.result c.load_label-hebrew_y.result _ _ _ _ _
-          c.load_version-first.ensures.view c.load_label-english_x.ensures.view c.load_label-english_y.ensures.view c.load_label-hebrew_x.ensures.view c.load_label-hebrew_y.ensures.view (omega (arith, c.if-first-eq1.false)) w.if-first-second.true c.load_version-second.ensures.moment
+          (asked_sides c.reader.inside.seat.me.0 c.args.reader.now.log c.load_version-first.result c.load_version-second.result c.args.x.0 c.args.y.0
+          c.load_label-english_x.result c.load_label-english_y.result c.load_label-hebrew_x.result c.load_label-hebrew_y.result _ _ _ _ _
+          c.load_version-first.ensures.view c.load_label-english_x.ensures.view c.load_label-english_y.ensures.view c.load_label-hebrew_x.ensures.view
+          c.load_label-hebrew_y.ensures.view (omega (arith, c.if-first-eq1.false)) w.if-first-second.true c.load_version-second.ensures.moment
           (ap (λ (r : Reading). r.log) c.reader.view_is) c.reader.invariant.earlier c.requires.x_known c.requires.y_known)
       | else-first-second w ↦ subst is (sym w.result-is) tt
     ]
@@ -53,8 +55,10 @@ returns-clause-sides g c =
     let is : Result Sides Moved → Type 0 = λ result. IfOk result (λ sides. AreSides sides c.args.x.0 c.args.y.0 (english_of log) (hebrew_of log)) in
     elim c.if-first-second.branch [
       | then-first-second w ↦ subst is (sym w.result-is)
-          ((asked_sides c.reader.inside.seat.me.0 c.args.reader.now.log c.load_version-first.result c.load_version-second.result c.args.x.0 c.args.y.0 c.load_label-english_x.result c.load_label-english_y.result c.load_label-hebrew_x.result c.load_label-hebrew_y.result _ _ _ _ _
-          c.load_version-first.ensures.view c.load_label-english_x.ensures.view c.load_label-english_y.ensures.view c.load_label-hebrew_x.ensures.view c.load_label-hebrew_y.ensures.view (omega (arith, c.if-first-eq1.false)) w.if-first-second.true c.load_version-second.ensures.moment
+          ((asked_sides c.reader.inside.seat.me.0 c.args.reader.now.log c.load_version-first.result c.load_version-second.result c.args.x.0 c.args.y.0
+          c.load_label-english_x.result c.load_label-english_y.result c.load_label-hebrew_x.result c.load_label-hebrew_y.result _ _ _ _ _
+          c.load_version-first.ensures.view c.load_label-english_x.ensures.view c.load_label-english_y.ensures.view c.load_label-hebrew_x.ensures.view
+          c.load_label-hebrew_y.ensures.view (omega (arith, c.if-first-eq1.false)) w.if-first-second.true c.load_version-second.ensures.moment
           (ap (λ (r : Reading). r.log) c.reader.view_is) c.reader.invariant.earlier c.requires.x_known c.requires.y_known) log (starts_self log))
       | else-first-second w ↦ subst is (sym w.result-is) tt
     ]

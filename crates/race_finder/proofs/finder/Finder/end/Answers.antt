@@ -16,5 +16,6 @@ returns c = λ h e p k steps.
     let f = c.args.self.now in
     let doers = f.doers.items in
     let lt = task_in h e f.places.english f.places.hebrew doers f.logs.items f.count c.args.task k steps p.task_is in
-    end_taken h e c.args.task p.acts.0 p.task_is p.acts.1 steps f.places.english f.places.hebrew doers f.logs.items f.count (f.count + 1) c.index_mut.result.now k
+    end_taken h e c.args.task p.acts.0 p.task_is p.acts.1 steps f.places.english f.places.hebrew doers f.logs.items f.count
+    (f.count + 1) c.index_mut.result.now k
     (slice_get_read doers (length doers) c.args.task c.index_mut.result.now refl lt c.index_mut.ensures.value) refl

@@ -58,6 +58,10 @@ returns-clause-takes c = λ h e p k steps.
     let f = c.args.self.now in
     let doers = f.doers.items in
     let d = c.index_mut.result.now in
-    get_taken h e steps f.places.english f.places.hebrew doers f.logs.items f.count k c.args.task c.args.future c.reserve.new.self c.get_one.new.places d c.get_one.new.doer c.in_ok-reach.reach (f.count + 1) p
-    c.in_ok-reserve.ensures.english c.in_ok-reserve.ensures.hebrew (looked_up h e f.places.english f.places.hebrew doers f.logs.items f.count c.args.task k steps p.task_is doers d refl c.index_mut.ensures.value) c.get_one.ensures.number
-    (subst (λ (l : List Doer). TableAfterGet c.reserve.new.self l c.args.task c.args.future c.in_ok-reach.reach) c.as_slice.ensures.value c.in_ok-reach.ensures) c.get_one.ensures.gets refl
+    get_taken h e steps f.places.english f.places.hebrew doers f.logs.items f.count k c.args.task c.args.future c.reserve.new.self c.get_one.new.places d
+    c.get_one.new.doer c.in_ok-reach.reach (f.count + 1) p
+    c.in_ok-reserve.ensures.english c.in_ok-reserve.ensures.hebrew
+    (looked_up h e f.places.english f.places.hebrew doers f.logs.items f.count c.args.task k steps p.task_is doers d refl
+    c.index_mut.ensures.value) c.get_one.ensures.number
+    (subst (λ (l : List Doer). TableAfterGet c.reserve.new.self l c.args.task c.args.future c.in_ok-reach.reach) c.as_slice.ensures.value
+    c.in_ok-reach.ensures) c.get_one.ensures.gets refl

@@ -59,8 +59,11 @@ returns-clause-takes c = λ h e p k steps.
     let en = c.in_ok-reserve.ensures.english in
     let he = c.in_ok-reserve.ensures.hebrew in
     let may = sync_may h e steps f.places.english f.places.hebrew doers f.logs.items f.count k c.args.task c.reserve.new.self p en he in
-    sync_taken h e steps f.places.english f.places.hebrew doers f.logs.items f.count k c.args.task c.reserve.new.self c.sync_one.new.places d c.sync_one.new.doer c.in_ok-reach.reach c.first_last-last.result (f.count + 1) p
-    en he (looked_up h e f.places.english f.places.hebrew doers f.logs.items f.count c.args.task k steps p.task_is doers d refl c.index_mut.ensures.value) c.sync_one.ensures.number
+    sync_taken h e steps f.places.english f.places.hebrew doers f.logs.items f.count k c.args.task c.reserve.new.self c.sync_one.new.places d
+    c.sync_one.new.doer c.in_ok-reach.reach c.first_last-last.result (f.count + 1) p
+    en he (looked_up h e f.places.english f.places.hebrew doers f.logs.items f.count c.args.task k steps p.task_is doers d refl
+    c.index_mut.ensures.value) c.sync_one.ensures.number
     (subst (λ (l : List Doer). TableOfBlock c.reserve.new.self l c.args.task c.in_ok-reach.reach) c.as_slice.ensures.value c.in_ok-reach.ensures)
-    (c.first_last-last.ensures.last (structure_of h) (subst (λ (l : List Doer). MaySync (structure_of h) c.reserve.new.self l c.args.task) (sym c.as_slice-2.ensures.value) may))
+    (c.first_last-last.ensures.last (structure_of h) (subst (λ (l : List Doer). MaySync (structure_of h) c.reserve.new.self l c.args.task)
+    (sym c.as_slice-2.ensures.value) may))
     c.sync_one.ensures.syncs refl
