@@ -10,7 +10,7 @@ use Rattle.task_machine.specs.Machine.{Machine}
 use Rattle.run_replay.specs.Serials.{Stops, IsSerialRun}
 use Rattle.fut_engine.specs.Runs.{Ends, IsRun}
 
-ends_of : (P : tree.Program) (limits : Limits) (h : List Event) (m : Machine) (f : Finish) → Stops P limits h m f → Ends P limits h m f
+pub ends_of : (P : tree.Program) (limits : Limits) (h : List Event) (m : Machine) (f : Finish) → Stops P limits h m f → Ends P limits h m f
 ends_of P limits h m finish.Whole s = s
 ends_of P limits h m (finish.Events b) (t, r, first, spent) = (t, spent)
 ends_of P limits h m (finish.Local u) (t, r, first, spent) = (t, spent)

@@ -2,4 +2,12 @@
 #![tactic(auto)]
 
 pub mod laws;
+pub mod made;
+pub mod naming;
+mod rest;
 pub mod run;
+mod seat;
+mod seats;
+mod sharing;
+mod turn;
+pub mod whole;
