@@ -384,11 +384,11 @@ module _ (P : tree.Program) (h : List Event) (m n : Machine) (e : Event) (step :
                 | inr b ↦ waiter_wakes u b
               ]),
               (λ w. (
-                let k = wakes_waiter u w.0 w.1 in
-                elim k.2 [
-                  | inl b ↦ absurd (let bad : None ≡ Some u = sym is ∙ b.2 in cc)
-                  | inr b ↦ subst (Among u) (sym whole) (among_right u x.first s.awaited.waiters b)
-                ])),
+                  let k = wakes_waiter u w.0 w.1 in
+                  elim k.2 [
+                    | inl b ↦ absurd (let bad : None ≡ Some u = sym is ∙ b.2 in cc)
+                    | inr b ↦ subst (Among u) (sym whole) (among_right u x.first s.awaited.waiters b)
+                  ])),
             );
           },
         )
@@ -407,11 +407,11 @@ module _ (P : tree.Program) (h : List Event) (m n : Machine) (e : Event) (step :
                 | inr b ↦ waiter_wakes u b
               ]),
               (λ w. (
-                let k = wakes_waiter u w.0 w.1 in
-                elim k.2 [
-                  | inl b ↦ subst (Among u) (sym whole) (among_left u x.first s.awaited.waiters (parent_among p is x.first tells u k.0 k.1 b.0 b.1 b.2))
-                  | inr b ↦ subst (Among u) (sym whole) (among_right u x.first s.awaited.waiters b)
-                ])),
+                  let k = wakes_waiter u w.0 w.1 in
+                  elim k.2 [
+                    | inl b ↦ subst (Among u) (sym whole) (among_left u x.first s.awaited.waiters (parent_among p is x.first tells u k.0 k.1 b.0 b.1 b.2))
+                    | inr b ↦ subst (Among u) (sym whole) (among_right u x.first s.awaited.waiters b)
+                  ])),
             );
           },
         )

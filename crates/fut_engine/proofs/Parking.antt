@@ -323,11 +323,11 @@ module _ (P : tree.Program) (h : List Event) (m : Machine) (l : Leads P (opening
             seated = record {
               size = ap length y.is ∙ (set_length middle t (gone_for f y.before) ∙ (ap length x.is ∙ (set_length seats f (awaited_by t x.before) ∙ a.size)));
               each = λ u q k there seat. (
-                let z = seat_of P m seats a u q there in
-                let c = turned u z.0 z.1 in
-                let same : c.0 ≡ k = some_same c.0 k (sym c.1 ∙ seat) in
-                subst (λ j. IsSeat P m new u q j) same
-                (parked_seat gone_parents u q z.0 c.0 z.2 c.2.parent c.2.count c.2.value (gone_wants u q z.0 c.0 there z.2 c.2) (gone_sits u q z.0 c.0 z.1 z.2 c.2) (gone_awaits u q z.0 c.0 z.1 z.2 c.2) (gone_once u q z.0 c.0 z.1 z.2 c.2)));
+                  let z = seat_of P m seats a u q there in
+                  let c = turned u z.0 z.1 in
+                  let same : c.0 ≡ k = some_same c.0 k (sym c.1 ∙ seat) in
+                  subst (λ j. IsSeat P m new u q j) same
+                  (parked_seat gone_parents u q z.0 c.0 z.2 c.2.parent c.2.count c.2.value (gone_wants u q z.0 c.0 there z.2 c.2) (gone_sits u q z.0 c.0 z.1 z.2 c.2) (gone_awaits u q z.0 c.0 z.1 z.2 c.2) (gone_once u q z.0 c.0 z.1 z.2 c.2)));
             };
             waits = ap (waiting_in new) gone ∙ ap (while_none f) (gone_values f (slice_get seats f) refl ∙ none);
             others = λ u other. by u other (slice_get seats u) refl;

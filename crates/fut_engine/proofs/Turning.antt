@@ -18,15 +18,17 @@ use Rattle.run_replay.specs.Next.{IsMade, IsWaiting}
 use Rattle.run_replay.proofs.Acting.{longer}
 use Rattle.fut_engine.specs.declared.seat.Seat.{Seat}
 use Rattle.fut_engine.specs.Seats.{value_at, parent_at, went_for, waits_for, Settles, CanTell, CanSettle, MaySettle, MayPark, Parks}
-use Rattle.fut_engine.specs.Turns.{WholeNow, CanTurn, IsReady, HasGone, HasParked}
-use Rattle.fut_engine.specs.Wholes.{still, unended, IsSeat, AreSeated, Holds}
+use Rattle.fut_engine.specs.declared.made.Made.{Made}
+use Rattle.fut_engine.specs.Going.{AlwaysGoes}
+use Rattle.fut_engine.specs.Turns.{WholeNow, CanTurn, IsReady, HasGone, HasParked, AlwaysTurns, KeepsTurning}
+use Rattle.fut_engine.specs.Wholes.{still, unended, IsSeat, AreSeated, Holds, AlwaysHolds, IsNamed, IsKept}
 use Rattle.fut_engine.proofs.Lists.{some_same}
 use Rattle.fut_engine.proofs.Steps.{places, ran, future_is}
 use Rattle.fut_engine.proofs.Seating.{waits_in, value_in, seat_of, task_of, values_are}
 use Rattle.fut_engine.proofs.Settling.{plain, synced, created, spawned}
 use Rattle.fut_engine.proofs.Ending.{ended, no_one}
 use Rattle.fut_engine.proofs.Parking.{may_park, parked}
-use Rattle.fut_engine.proofs.Going.{more_creates}
+use Rattle.fut_engine.proofs.Going.{more_creates, goes_first}
 
 abbrev pub seen : List Event → List Seat → WholeNow
 seen h seats = record { history = h; seats = seats }
@@ -207,3 +209,30 @@ module _ (P : tree.Program) (code : Compiled) (limits : Limits) (h : List Event)
           record { future = o; waiting = w; waits = p.waits; others = p.others; history = is },
         ),
       )
+
+-- ---- the value behind the lock
+
+module _ (code own : Compiled) (named limits : Limits) (h : List Event) (run : ReplayNow) (seats : List Seat) (e : code ≡ own) (kept : IsKept own named limits h run seats) where
+  -- it is named so by the code that is lent
+  pub named_so : IsNamed code limits
+  named_so = subst (λ k. IsNamed k limits) (sym e) (subst (IsNamed own) (sym kept.limits_are) kept.name)
+
+  pub holds_so : AlwaysHolds code limits h run seats
+  holds_so = subst (λ k. AlwaysHolds k limits h run seats) (sym e) (subst (λ k. AlwaysHolds own k h run seats) (sym kept.limits_are) kept.holds)
+
+  pub goes_so : AlwaysGoes code limits h h run
+  goes_so = λ P typed of. let x = holds_so P typed of in goes_first P code limits h run x.machine x.replay x.few x.creates_few
+
+  module _ (t : ℕ) (g : List Event) (now : ReplayNow) (new : List Seat) (made : Made) (turns : KeepsTurning code limits h run seats t g now new made) where
+    pub kept_so : IsKept own named limits g now new
+    kept_so =
+        record {
+          limits_are = kept.limits_are;
+          name = kept.name;
+          holds = subst (λ k. AlwaysHolds k named g now new) e (subst (λ k. AlwaysHolds code k g now new) kept.limits_are (λ P typed of. (turns P typed of (holds_so P typed of)).0));
+        }
+
+    pub turns_so : AlwaysTurns code named (seen h seats) t (seen g new) made
+    turns_so =
+        subst (λ k. AlwaysTurns code k (seen h seats) t (seen g new) made) kept.limits_are
+        (λ P typed of. let x = holds_so P typed of in (x.machine, x.replay.leads, (turns P typed of x).1))
