@@ -9,5 +9,7 @@ pub mod run;
 mod seat;
 mod seats;
 mod sharing;
+#[cfg(test)]
+mod tests;
 mod turn;
 pub mod whole;
