@@ -6,5 +6,6 @@ pub mod Settling
 pub mod Ending
 pub mod Parking
 pub mod Turning
+pub mod Crossing
 pub mod Running
 pub mod Going

@@ -7,7 +7,6 @@ use crate::whole::Whole;
 use fut_base::gate::Gate;
 use fut_base::ready::Ready;
 use std::alloc::Global;
-use std::marker::Model;
 use std::sync::{Mutex, Wait};
 use steal_pool::{Body, Turned};
 use task_code::code::Code;
@@ -19,16 +18,7 @@ pub struct Sharing<'a, J: Naming, G> {
     pub whole: &'a Mutex<Whole<J>>,
     pub code: &'a Code,
     pub gate: &'a G,
-}
-
-impl<'a, J: Naming, G> Model for Sharing<'a, J, G> {
-    ghost use Rattle.std.specs.Prelude.{◌≡◌, ℕ};
-
-    ghost Value = { ℕ };
-
-    ghost view = { λ _. 0 };
-
-    ghost invariant = { λ s. s.code.now ≡ J.code };
+    pub ghost named: { code.now ≡ J.code },
 }
 
 /// The event of a task, made under the lock.
