@@ -6,6 +6,5 @@ pub mod Settling
 pub mod Ending
 pub mod Parking
 pub mod Turning
-pub mod Crossing
 pub mod Running
 pub mod Going

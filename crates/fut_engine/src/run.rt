@@ -10,7 +10,7 @@ ghost use Rattle.fut_engine.specs.Runs.{IsRun};
 ghost use Rattle.fut_engine.specs.Wholes.{IsNamed};
 
 use crate::naming::Naming;
-use crate::sharing::Sharing;
+use crate::sharing::{LendsToAll, Sharing};
 use crate::whole::Whole;
 use fut_base::gate::Gate;
 use fut_base::list::NoMemory;
@@ -42,7 +42,30 @@ fn zeros(alloc: Global, count: u32) -> Result<Ready<u32>, NoMemory>
     Ok(all)
 }
 
-/// The workers make events until no task may go on or one of them has halted, and the caller makes those that are left.
+/// The workers make events until no task may go on or one of them has halted.
+fn work_all<J: Naming + Send + Sync, C: LendsToAll, G: Gate + Sync, R: Threads + Wait + Sync>(
+    rt: &R,
+    alloc: Global,
+    workers: u32,
+    whole: &Mutex<Whole<J>>,
+    code: &C,
+    gate: &G,
+) -> Result<(), NoMemory>
+    requires code { C.lent code.now ≡ J.code }
+    requires workers { (1 ≤ workers) × (workers ≤ 64) }
+{
+    let owns = zeros(alloc, workers)?;
+    let sharing = Sharing {
+        alloc,
+        whole,
+        code,
+        gate,
+    };
+    let _left = run_jobs(rt, alloc, owns, 0u32, &sharing)?;
+    Ok(())
+}
+
+/// The workers make events, and then the caller makes those that are left.
 fn run_named<J: Naming + Send + Sync, G: Gate + Sync, R: Threads + Wait + Sync>(
     rt: &R,
     alloc: Global,
@@ -59,14 +82,7 @@ fn run_named<J: Naming + Send + Sync, G: Gate + Sync, R: Threads + Wait + Sync>(
     ensures never_stuck { IfOk result (λ ran. (P : tree.Program) → IsWellTyped P → IsCodeOf P code.now → IsNeverStuck P (events_of ran.history)) }
 {
     let whole: Mutex<Whole<J>> = Mutex::new(Whole::make(alloc, code, options.limits)?);
-    let owns = zeros(alloc, options.workers)?;
-    let sharing = Sharing {
-        alloc,
-        whole: &whole,
-        code,
-        gate,
-    };
-    let _left = run_jobs(rt, alloc, owns, 0u32, &sharing)?;
+    work_all(rt, alloc, options.workers, &whole, code, gate)?;
     whole.into_inner().rest(code)
 }
 

@@ -7,27 +7,64 @@ use crate::whole::Whole;
 use fut_base::gate::Gate;
 use fut_base::ready::Ready;
 use std::alloc::Global;
+use std::marker::Model;
 use std::sync::{Mutex, Wait};
 use steal_pool::{Body, Turned};
 use task_code::code::Code;
 
+/// What lends code. The only one is code itself.
+pub trait Lends {
+    ghost use Rattle.task_code.specs.Flat.{Compiled};
+
+    ghost lent: { Self → Compiled };
+
+    fn lend(&self) -> &Code
+        ensures { result.now ≡ lent self.now };
+}
+
+impl Lends for Code {
+    ghost lent = { λ code. code };
+
+    fn lend(&self) -> &Code {
+        self
+    }
+}
+
+/// What lends code to any thread. That code does is checked here, apart from all that it is shared with.
+pub trait LendsToAll: Lends + Sync {}
+
+impl LendsToAll for Code {}
+
 /// The run behind its lock, with the code that it names, and the gate.
 #[derive(Drop)]
-pub struct Sharing<'a, J: Naming, G> {
+pub struct Sharing<'a, J: Naming, C: Lends, G> {
     pub alloc: Global,
     pub whole: &'a Mutex<Whole<J>>,
-    pub code: &'a Code,
+    pub code: &'a C,
     pub gate: &'a G,
-    pub ghost named: { code.now ≡ J.code },
+}
+
+impl<'a, J: Naming, C: Lends, G> Model for Sharing<'a, J, C, G> {
+    ghost use Rattle.std.specs.Prelude.{◌≡◌, ℕ};
+
+    ghost Value = { ℕ };
+
+    ghost view = { λ _. 0 };
+
+    ghost invariant = { λ s. C.lent s.code.now ≡ J.code };
 }
 
 /// The event of a task, made under the lock.
-fn event<J: Naming, G, R: Wait>(rt: &R, sharing: &Sharing<'_, J, G>, task: u32) -> Made {
-    sharing.whole.lock(rt).event(sharing.code, task)
+fn event<J: Naming, C: Lends, G, R: Wait>(
+    rt: &R,
+    sharing: &Sharing<'_, J, C, G>,
+    task: u32,
+) -> Made {
+    sharing.whole.lock(rt).event(sharing.code.lend(), task)
 }
 
 // A worker's own value is the number of events that it has made.
-impl<'a, J: Naming, G: Gate> Body<u32, u32> for Sharing<'a, J, G> {
+impl<'a, J: Naming, C: Lends, G: Gate> Body<u32, u32> for Sharing<'a, J, C, G> {
     ghost turned = { λ s w o j m h n. Unit {0} };
 
     fn turn<R: Wait>(&self, rt: &R, worker: u32, own: &mut u32, job: u32) -> Turned<u32> {

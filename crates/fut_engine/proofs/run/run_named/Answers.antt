@@ -1,17 +1,11 @@
 use Rattle.std.proofs.Common.{subst, sym}
 use Rattle.std.specs.Prelude.{IfOk}
-use Rattle.std.proofs.Crossing.{crosses}
-use denote.Param.Send.{sendable}
 use Rattle.fut_base.specs.Events.{events_of}
 use Rattle.fut_syntax.specs.Trees as tree
 use Rattle.fut_check.specs.Items.{IsWellTyped}
 use Rattle.task_code.specs.Flat.{IsCodeOf}
 use Rattle.fut_engine.specs.Runs.{IsRun}
-use Rattle.fut_engine.proofs.Crossing.{code_sync}
 use Rattle.fut_engine.proofs.run.run_named.Goals as goal
-
-pub run_jobs-requires-sync-B : goal.run_jobs-requires-sync-B
-run_jobs-requires-sync-B g c κs within = search (code_sync, sendable, crosses, c.type_bounds) depth 60 fits 2000
 
 pub returns-clause-run : goal.returns-clause-run
 returns-clause-run g c =
