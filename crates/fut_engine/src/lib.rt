@@ -8,6 +8,7 @@ mod rest;
 pub mod run;
 mod seat;
 mod seats;
+mod shared;
 mod sharing;
 #[cfg(test)]
 mod tests;

@@ -10,7 +10,8 @@ ghost use Rattle.fut_engine.specs.Runs.{IsRun};
 ghost use Rattle.fut_engine.specs.Wholes.{IsNamed};
 
 use crate::naming::Naming;
-use crate::sharing::{LendsToAll, Sharing};
+use crate::shared::may_share_code;
+use crate::sharing::{Lends, Sharing};
 use crate::whole::Whole;
 use fut_base::gate::Gate;
 use fut_base::list::NoMemory;
@@ -43,7 +44,7 @@ fn zeros(alloc: Global, count: u32) -> Result<Ready<u32>, NoMemory>
 }
 
 /// The workers make events until no task may go on or one of them has halted.
-fn work_all<J: Naming + Send + Sync, C: LendsToAll, G: Gate + Sync, R: Threads + Wait + Sync>(
+fn work_all<J: Naming + Send + Sync, C: Lends + Sync, G: Gate + Sync, R: Threads + Wait + Sync>(
     rt: &R,
     alloc: Global,
     workers: u32,
@@ -82,6 +83,7 @@ fn run_named<J: Naming + Send + Sync, G: Gate + Sync, R: Threads + Wait + Sync>(
     ensures never_stuck { IfOk result (λ ran. (P : tree.Program) → IsWellTyped P → IsCodeOf P code.now → IsNeverStuck P (events_of ran.history)) }
 {
     let whole: Mutex<Whole<J>> = Mutex::new(Whole::make(alloc, code, options.limits)?);
+    may_share_code(code);
     work_all(rt, alloc, options.workers, &whole, code, gate)?;
     whole.into_inner().rest(code)
 }

@@ -30,11 +30,6 @@ impl Lends for Code {
     }
 }
 
-/// What lends code to any thread. That code does is checked here, apart from all that it is shared with.
-pub trait LendsToAll: Lends + Sync {}
-
-impl LendsToAll for Code {}
-
 /// The run behind its lock, with the code that it names, and the gate.
 #[derive(Drop)]
 pub struct Sharing<'a, J: Naming, C: Lends, G> {
