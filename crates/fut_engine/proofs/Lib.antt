@@ -1,0 +1,10 @@
+pub mod Lists
+pub mod Steps
+pub mod Seating
+pub mod Changing
+pub mod Settling
+pub mod Ending
+pub mod Parking
+pub mod Turning
+pub mod Running
+pub mod Going
