@@ -1,6 +1,6 @@
 use Rattle.std.proofs.Common.{◌-◌, length, get_or, arith}
 use Rattle.access_shards.specs.declared.kept.Access.{Access}
-use Rattle.access_shards.proofs.Looking.{at_place}
+use Rattle.fut_base.proofs.Members.{at_place}
 use Rattle.access_shards.proofs.Rising.{ends_of, ends_at, side_at}
 use Rattle.access_shards.proofs.reading.ends_before.Goals as goal
 
