@@ -1,5 +1,6 @@
 -- The accesses of a cell in a history: their places, their races, and that no path leads back.
 use Rattle.std.proofs.Common.{◌≡◌, ℕ, ◌<◌, ◌≤◌, Bool, true, false, cond, List, [], ◌∷◌, ◌++◌, length, reverse, filter, ◌⊎◌, inl, inr, subst, ap, sym, refl, ◌∙◌}
+use Rattle.std.proofs.lemmas.Option.{none-some}
 use Rattle.std.proofs.Common.{arith, append_assoc, option_to_list, option_map, slice_get, ◌==◌, ◌&&◌, if◌then◌else◌, length-append}
 use Rattle.std.specs.Prelude.{Option, Some, None}
 use Rattle.std.proofs.lemmas.Bool.{cases_lt, cases_eq}
@@ -48,11 +49,8 @@ stood_get (x ∷ past) i e (inr h) =
     ap (λ l. slice_get l i) (reverse-append (x ∷ []) past) ∙ get_front (reverse past) x i
     (let k = stood_lt past i e h in let l = length-reverse past in omega (arith, k, l)) ∙ stood_get past i e h
 
-none_some : (e : Event) → ◌≡◌ {A = Option Event} None (Some e) → ⊥
-none_some e h = cc
-
 pub get_stood : (past : List Event) (i : ℕ) (e : Event) → slice_get (reverse past) i ≡ Some e → Stood past i e
-get_stood [] i e h = none_some e (sym (slice_get_past (reverse []) i (omega arith)) ∙ h)
+get_stood [] i e h = none-some e (sym (slice_get_past (reverse []) i (omega arith)) ∙ h)
 get_stood (x ∷ past) i e h =
     let turned : slice_get (reverse past ++ x ∷ []) i ≡ Some e = ap (λ l. slice_get l i) (sym (reverse-append (x ∷ []) past)) ∙ h in
     let len = length-reverse past in
@@ -61,7 +59,7 @@ get_stood (x ∷ past) i e h =
       | inl lt ↦ inr (get_stood past i e (sym (get_front (reverse past) x i (omega (arith, lt, len))) ∙ turned))
       | inr ge ↦ elim (cases_eq (length past) i) [
         | inl is ↦ inl (is, some_same (sym (get_last (reverse past) x i (len ∙ is)) ∙ turned))
-        | inr ne ↦ absurd (none_some e (sym (slice_get_past (reverse past ++ x ∷ []) i (omega (arith, ge, ne, len, all))) ∙ turned))
+        | inr ne ↦ absurd (none-some e (sym (slice_get_past (reverse past ++ x ∷ []) i (omega (arith, ge, ne, len, all))) ∙ turned))
       ]
     ]
   where

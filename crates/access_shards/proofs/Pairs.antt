@@ -1,5 +1,7 @@
 -- The races and the first pair of a cell's accesses are those of the history.
 use Rattle.std.proofs.Common.{◌≡◌, ℕ, ◌≤◌, Bool, true, false, List, reverse, ◌⊎◌, inl, inr, subst, ap, sym, refl, ◌∙◌, true≢false, ◌==◌, ◌||◌, if◌then◌else◌}
+use Rattle.std.proofs.lemmas.Bool.{or_cases, or_left, or_right}
+use Rattle.std.proofs.lemmas.Option.{none-some, same_Some}
 use Rattle.std.specs.Prelude.{Option, Some, None}
 use Rattle.fut_base.specs.declared.event.Event.{Event}
 use Rattle.fut_base.specs.declared.event.Action.{Action}
@@ -16,16 +18,10 @@ use Rattle.access_shards.specs.Histories.{kind_of, touches_of}
 use Rattle.access_shards.specs.Laws.{RacesAreOfAccesses, FirstPairIsOfAccesses, KeptTellsRaces}
 use Rattle.access_shards.proofs.Histories.{touch_stood, stood_touch, stood_of, get_of}
 
-no_kind : (k : Kind) → ◌≡◌ {A = Option Kind} None (Some k) → ⊥
-no_kind k h = cc
-
-same_kind : (k l : Kind) → ◌≡◌ {A = Option Kind} (Some k) (Some l) → k ≡ l
-same_kind k l h = cc
-
 -- a test of the cell
 if_cell : (cell c : ℕ) (k l : Kind) → (if cell == c then Some k else None) ≡ Some l → (cell ≡ c) × (k ≡ l)
-if_cell cell c k l = by_eq (λ b. (if b then Some k else None) ≡ Some l → (cell ≡ c) × (k ≡ l)) cell c (λ e h. (e, same_kind k l h))
-    (λ ne h. absurd (no_kind l h))
+if_cell cell c k l = by_eq (λ b. (if b then Some k else None) ≡ Some l → (cell ≡ c) × (k ≡ l)) cell c (λ e h. (e, same_Some k l h))
+    (λ ne h. absurd (none-some l h))
 
 on_cell : (cell c : ℕ) (k : Kind) → cell ≡ c → (if cell == c then Some k else None) ≡ Some k
 on_cell cell c k e = by_eq (λ b. (if b then Some k else None) ≡ Some k) cell c (λ _. refl) (λ ne. absurd (ne e))
@@ -34,11 +30,11 @@ on_cell cell c k e = by_eq (λ b. (if b then Some k else None) ≡ Some k) cell 
 is_access : (c : ℕ) (a : Action) (k : Kind) → kind_of c a ≡ Some k → IsAccess c a
 is_access c (Reads cell _) k h = (if_cell cell c reading k h).0
 is_access c (Writes cell _) k h = (if_cell cell c writing k h).0
-is_access c (Spawns _ _ _ _ _) k h = no_kind k h
-is_access c (Creates _ _ _ _ _) k h = no_kind k h
-is_access c (Syncs _) k h = no_kind k h
-is_access c (Gets _ _ _) k h = no_kind k h
-is_access c (Ends _) k h = no_kind k h
+is_access c (Spawns _ _ _ _ _) k h = none-some k h
+is_access c (Creates _ _ _ _ _) k h = none-some k h
+is_access c (Syncs _) k h = none-some k h
+is_access c (Gets _ _ _) k h = none-some k h
+is_access c (Ends _) k h = none-some k h
 
 -- and the other way round, a write where it writes
 has_kind : (c : ℕ) (a : Action) → IsAccess c a → (k : Kind) × (kind_of c a ≡ Some k) × (IsWrite a → is_write k ≡ true)
@@ -53,20 +49,11 @@ has_kind c (Ends _) h = absurd h
 does_write : (c : ℕ) (a : Action) (k : Kind) → kind_of c a ≡ Some k → is_write k ≡ true → IsWrite a
 does_write c (Reads cell _) k h w = absurd (true≢false (sym w ∙ ap is_write (sym (if_cell cell c reading k h).1)))
 does_write c (Writes cell _) k h w = tt
-does_write c (Spawns _ _ _ _ _) k h w = absurd (no_kind k h)
-does_write c (Creates _ _ _ _ _) k h w = absurd (no_kind k h)
-does_write c (Syncs _) k h w = absurd (no_kind k h)
-does_write c (Gets _ _ _) k h w = absurd (no_kind k h)
-does_write c (Ends _) k h w = absurd (no_kind k h)
-
-one_writes : (x y : Bool) → (x || y) ≡ true → (x ≡ true) ⊎ (y ≡ true)
-one_writes true y h = inl refl
-one_writes false y h = inr h
-
-either : (x y : Bool) → (x ≡ true) ⊎ (y ≡ true) → (x || y) ≡ true
-either true y h = refl
-either false y (inl h) = absurd (true≢false (sym h))
-either false y (inr h) = h
+does_write c (Spawns _ _ _ _ _) k h w = absurd (none-some k h)
+does_write c (Creates _ _ _ _ _) k h w = absurd (none-some k h)
+does_write c (Syncs _) k h w = absurd (none-some k h)
+does_write c (Gets _ _ _) k h w = absurd (none-some k h)
+does_write c (Ends _) k h w = absurd (none-some k h)
 
 module _ (h : List Event) (c : ℕ) where
   pub to_history : (a b : Touch Kind) → AreRacing Kind kinds (edges_of h) (touches_of c h) a b → PlacesRace h c a.place b.place
@@ -83,7 +70,7 @@ module _ (h : List Event) (c : ℕ) where
           record {
             one = is_access c x.0.action a.kind x.3;
             other = is_access c y.0.action b.kind y.3;
-            write = elim (one_writes (is_write a.kind) (is_write b.kind) r.conflict) [
+            write = elim (or_cases (is_write a.kind) (is_write b.kind) r.conflict) [
               | inl w ↦ inl (does_write c x.0.action a.kind x.3 w)
               | inr w ↦ inr (does_write c y.0.action b.kind y.3 w)
             ];
@@ -106,7 +93,10 @@ module _ (h : List Event) (c : ℕ) where
           one = stood_touch c (reverse h) i x k.0 (stood_of h i x r.events.2) k.1;
           other = stood_touch c (reverse h) j y l.0 (stood_of h j y r.events.3) l.1;
           order = r.order;
-          conflict = either (is_write k.0) (is_write l.0) (elim m.write [ inl w ↦ inl (k.2 w) | inr w ↦ inr (l.2 w) ]);
+          conflict = elim m.write [
+            | inl w ↦ or_left (is_write k.0) (is_write l.0) (k.2 w)
+            | inr w ↦ or_right (is_write k.0) (is_write l.0) (l.2 w)
+          ];
           apart = m.apart;
         },
         refl,

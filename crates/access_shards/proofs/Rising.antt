@@ -22,12 +22,9 @@ use Rattle.access_shards.specs.Finding.{IsApart, AreOf, AreThoseApart, AllOnKnow
 use Rattle.access_shards.specs.Logged.{StandsFirst, RiseInEnglish}
 use Rattle.reach_table.specs.Telling.{TellsReach}
 use Rattle.access_shards.specs.Reading.{IsNotAfter, EndsBefore, IsDropped, DropsEnd, AreApart, AreReads, KeepsAll, KeepsRead}
-use Rattle.access_shards.proofs.Looking.{at_place}
+use Rattle.std.proofs.lemmas.Bool.{and_from}
+use Rattle.fut_base.proofs.Members.{at_place}
 use Rattle.access_shards.proofs.Keeping.{in_order_last}
-
-both_true : (a b : Bool) → a ≡ true → b ≡ true → (a && b) ≡ true
-both_true true b h k = k
-both_true false b h k = h
 
 module _ (s : List Event) (sound : IsSound s) where
   -- a strand after one that stands before another
@@ -77,7 +74,7 @@ module _ (s : List Event) (sound : IsSound s) where
       behind lt =
           let before = place_before u.number v.number H ((whole_he (reverse s) sound).all v.number ov.there) lt in
           apart ((try_means_path (reverse s) sound u.number v.number (record { one = ou.there; other = ov.there })).1
-          (inl (home_uv, inr (both_true _ _ h.first before))))
+          (inl (home_uv, inr (and_from _ _ h.first before))))
 
       go : v.number ≢ w.number → stands_before v.number w.number E ≡ true → ReachesBy (edges_of s) v.number w.number
       go n f =
@@ -96,7 +93,7 @@ module _ (s : List Event) (sound : IsSound s) where
                     | inr le ↦ (
                         let before = place_before v.number w.number H ((whole_he (reverse s) sound).all w.number ow.there) (omega (arith, z, le)) in
                         (try_means_path (reverse s) sound v.number w.number (record { one = ov.there; other = ow.there })).1
-                        (inl (home_vw, inr (both_true _ _ f before))))
+                        (inl (home_vw, inr (and_from _ _ f before))))
                   ])
             ]
           ]

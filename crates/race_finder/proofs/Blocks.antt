@@ -1,5 +1,6 @@
 -- The tables of strands after gets and syncs.
 use Rattle.std.proofs.Common.{◌≡◌, ℕ, zero, suc, ◌+◌, ◌<◌, Bool, true, false, true≢false, List, [], ◌∷◌, ◌++◌, length, reverse, get_or, take, inl, inr, subst}
+use Rattle.std.proofs.lemmas.Option.{none-some, same_Some}
 use Rattle.std.proofs.Common.{ap, sym, refl, ◌∙◌, arith, slice_get}
 use Rattle.std.specs.Prelude.{Option, Some, None, IsSome}
 use Rattle.std.specs.List.{cons_option}
@@ -172,14 +173,8 @@ doer_in s places doers t d of at =
 -- the last strand of a block's first child
 pub first_is : (past : List Event) (block : List ℕ) (child : ℕ) (v : Strand) → slice_get block 0 ≡ Some child → last_of past child ≡ Some v.number
     → IsLastOf past block (Some v)
-first_is past [] child v h is = none_some child h
-  where
-    none_some : (c : ℕ) → ◌≡◌ {A = Option ℕ} None (Some c) → ⊥
-    none_some c e = cc
-first_is past (x ∷ xs) child v h is = ap (last_of past) (same h) ∙ is
-  where
-    same : {a b : ℕ} → Some a ≡ Some b → a ≡ b
-    same {a} {b} e = cc
+first_is past [] child v h is = none-some child h
+first_is past (x ∷ xs) child v h is = ap (last_of past) (same_Some x child h) ∙ is
 
 pub first_none : (past : List Event) (block : List ℕ) → slice_get block 0 ≡ None → IsLastOf past block None
 first_none past [] h = tt

@@ -1,5 +1,6 @@
 -- A history and one more event.
 use Rattle.std.proofs.Common.{◌≡◌, ◌≢◌, ℕ, true, false, cond, List, [], ◌∷◌, ◌++◌, length, reverse, subst, ap, sym, refl, ◌∙◌, option_to_list, option_map, ◌==◌}
+use Rattle.std.proofs.lemmas.Option.{none-some}
 use Rattle.std.proofs.Common.{if◌then◌else◌}
 use Rattle.std.specs.Prelude.{Option, Some, None}
 use Rattle.std.proofs.lemmas.List.{reverse-append, length-reverse, append-nil}
@@ -24,11 +25,8 @@ current_of h t = ap (λ l. current l t) (reverse_filter by_structure h) ∙ same
 pub last_in : (h : List Event) (t : ℕ) → last_of (reverse (structure_of h)) t ≡ last_of (reverse h) t
 last_in h t = ap (λ l. last_of l t) (reverse_filter by_structure h) ∙ same_last (reverse h) t
 
-pub not_none : (k : Kind) → ◌≡◌ {A = Option Kind} None (Some k) → ⊥
-not_none k h = cc
-
 cell_is : (cell c : ℕ) (kind k : Kind) → (if cell == c then Some kind else None) ≡ Some k → cell ≡ c
-cell_is cell c kind k = by_eq (λ b. (if b then Some kind else None) ≡ Some k → cell ≡ c) cell c (λ e _. e) (λ _ z. absurd (not_none k z))
+cell_is cell c kind k = by_eq (λ b. (if b then Some kind else None) ≡ Some k → cell ≡ c) cell c (λ e _. e) (λ _ z. absurd (none-some k z))
 
 -- an event accesses one cell at most, and structural ones none
 pub kind_else : (a : Action) (c d : ℕ) (k : Kind) → kind_of c a ≡ Some k → d ≢ c → kind_of d a ≡ None
@@ -43,11 +41,11 @@ kind_else (Ends v) c d k is ne = refl
 pub kind_plain : (a : Action) (c : ℕ) (k : Kind) → kind_of c a ≡ Some k → structural a ≡ false
 kind_plain (Reads cell v) c k is = refl
 kind_plain (Writes cell v) c k is = refl
-kind_plain (Spawns d' c' k' y args) c k is = absurd (not_none k is)
-kind_plain (Creates d' c' k' y args) c k is = absurd (not_none k is)
-kind_plain (Syncs x) c k is = absurd (not_none k is)
-kind_plain (Gets f v x) c k is = absurd (not_none k is)
-kind_plain (Ends v) c k is = absurd (not_none k is)
+kind_plain (Spawns d' c' k' y args) c k is = absurd (none-some k is)
+kind_plain (Creates d' c' k' y args) c k is = absurd (none-some k is)
+kind_plain (Syncs x) c k is = absurd (none-some k is)
+kind_plain (Gets f v x) c k is = absurd (none-some k is)
+kind_plain (Ends v) c k is = absurd (none-some k is)
 
 pub kind_none : (a : Action) (c : ℕ) → structural a ≡ true → kind_of c a ≡ None
 kind_none (Reads cell v) c is = cc

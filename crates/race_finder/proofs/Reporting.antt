@@ -1,5 +1,6 @@
 -- The report of the logs of all cells.
 use Rattle.std.proofs.Common.{◌≡◌, ℕ, true, suc, ◌+◌, ◌<◌, ◌≤◌, List, [], ◌∷◌, ◌++◌, length, get_or, inl, inr, subst, ap, sym, refl, ◌∙◌, arith, slice_get}
+use Rattle.std.proofs.lemmas.Option.{same_Some}
 use Rattle.std.proofs.Common.{length-append, Vec, Global}
 use Rattle.std.specs.Prelude.{Option, Some, All, Any}
 use Rattle.std.proofs.Math.ListN.{get_or-append}
@@ -62,9 +63,6 @@ report_found logs i races races' l r at is cell_is is' up =
 clean_found : (w : Option Access) (rs : Vec Access Global) (a b : ℕ) (k : Kept) → k ≡ Clean w rs → k ≡ Found a b → ⊥
 clean_found w rs a b k c f = cc
 
-same_log : (l m : Logged) → ◌≡◌ {A = Option Logged} (Some l) (Some m) → l ≡ m
-same_log l m e = cc
-
 pub report_clean : (logs : List Logged) (i : ℕ) (races : List Race) (l : Logged) (w : Option Access) (rs : Vec Access Global) → slice_get logs i ≡ Some l
     → l.kept ≡ Clean w rs → IsReportUpTo logs i races → IsReportUpTo logs (i + 1) races
 report_clean logs i races l w rs at is up =
@@ -72,7 +70,7 @@ report_clean logs i races l w rs at is up =
       each = up.each;
       below = λ k d lt. (let b = up.below k d lt in omega (arith, b));
       whole = λ c m a b lt cm kept. elim (cases_eq c i) [
-        | inl e ↦ absurd (clean_found w rs a b l.kept is (ap (λ (x : Logged). x.kept) (same_log l m (sym at ∙ ap (slice_get logs) (sym e) ∙ cm)) ∙ kept))
+        | inl e ↦ absurd (clean_found w rs a b l.kept is (ap (λ (x : Logged). x.kept) (same_Some l m (sym at ∙ ap (slice_get logs) (sym e) ∙ cm)) ∙ kept))
         | inr ne ↦ up.whole c m a b (omega (arith, lt, ne)) cm kept
       ];
       order = up.order;
