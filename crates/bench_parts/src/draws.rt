@@ -80,12 +80,14 @@ struct Drawer<'a> {
 }
 
 impl<'a> Drawer<'a> {
-    // Draws so often.
+    // Draws so often. It counts beside itself, since the drawers of all threads lie side by side.
     fn draw(&mut self, times: u32, beside: Beside) {
+        let mut tickets = 0u32;
         for _k in 0..times {
             let drawn = draw(self.clock, &mut self.holder, self.task, beside);
-            self.tickets = self.tickets.wrapping_add(u32::from(drawn));
+            tickets = tickets.wrapping_add(u32::from(drawn));
         }
+        self.tickets = tickets;
     }
 }
 

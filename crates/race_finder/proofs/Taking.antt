@@ -18,9 +18,12 @@ use Rattle.reach_table.proofs.Events.{after_sync}
 use Rattle.access_shards.specs.Logged.{Logged}
 use Rattle.access_shards.specs.Histories.{IsInStep}
 use Rattle.race_finder.specs.declared.doer.Doer.{Doer}
+use Rattle.race_finder.specs.declared.forks.Fork.{Fork}
+use Rattle.race_finder.specs.declared.forks.Fork.TheVariants as fork
 use Rattle.race_finder.specs.Places.{Placed}
-use Rattle.race_finder.specs.Finding.{last_if, IsDoerOf, AreDoersOf, Knows, IsSpawnBy, IsCreateBy, IsGetBy, IsSyncBy}
-use Rattle.race_finder.specs.Acting.{AreForked, SpawnsOne, CreatesOne, AreJoined, GetsOne, SyncsOne, AreOf, MaySync, TableAfterGet, TableOfBlock, IsSameDoer}
+use Rattle.race_finder.specs.Finding.{last_if, IsDoerOf, AreDoersOf, Knows, IsSpawnBy, IsCreateBy, IsForkBy, IsGetBy, IsSyncBy}
+use Rattle.race_finder.specs.Acting.{AreForked, SpawnsOne, CreatesOne, ForksOne, AreJoined, GetsOne, SyncsOne, AreOf, MaySync, TableAfterGet, TableOfBlock}
+use Rattle.race_finder.specs.Acting.{IsSameDoer}
 use Rattle.race_finder.proofs.Lists.{set_get}
 use Rattle.access_shards.proofs.Histories.{by_structure}
 use Rattle.race_finder.proofs.Accesses.{strands_in}
@@ -83,6 +86,11 @@ same_known h english hebrew english' hebrew' doers logs count task d d' k at sam
       few = k.few;
       length_is = k.length_is;
     }
+
+-- whose fork it is
+pub fork_task : (f : Fork) (task child : ℕ) (e : Event) → IsForkBy f task child e → e.task ≡ task
+fork_task fork.Spawn task child e p = p.task_is
+fork_task fork.Create task child e p = p.task_is
 
 module _ (h : List Event) (e : Event) (steps : IsInStep (h ++ e ∷ [])) (english hebrew : List ℕ) (doers : List Doer) (logs : List Logged) (count : ℕ)
     (k : Knows h english hebrew doers logs count) where
@@ -178,6 +186,13 @@ module _ (h : List Event) (e : Event) (steps : IsInStep (h ++ e ∷ [])) (englis
       subst (λ ds. Knows (h ++ e ∷ []) places'.english places'.hebrew ds logs count') (sym doers_is)
       (forked a p.acts.4 refl task child places' d' kid count' p.task_is refl m.0
       (subst (λ x. AreForked (s ++ x ∷ []) places' task child d' kid) (sym same) f) counted)
+
+  pub fork_taken : (f : Fork) (task child : ℕ) (places places' : Placed) (d d' kid : Doer) (doers' : List Doer) (count' : ℕ) → IsForkBy f task child e
+      → places.english ≡ english → places.hebrew ≡ hebrew → slice_get doers task ≡ Some d
+      → AreNext (length places.english) kid.at.number d'.at.number → ForksOne f places d child places' d' kid → doers' ≡ set doers task d' ++ kid ∷ []
+      → count' ≡ count + 1 → Knows (h ++ e ∷ []) places'.english places'.hebrew doers' logs count'
+  fork_taken fork.Spawn = spawn_taken
+  fork_taken fork.Create = create_taken
 
   -- what is known of places in which there is room, and of all tasks
   pub known_of : (places : Placed) → places.english ≡ english → places.hebrew ≡ hebrew → AreOf s places doers

@@ -12,6 +12,8 @@ use Rattle.reach_table.specs.Tabled.{and_then}
 use Rattle.reach_table.specs.Telling.{HasTable}
 use Rattle.reach_table.specs.Merging.{IsMergedOf}
 use Rattle.race_finder.specs.declared.doer.Doer.{Doer}
+use Rattle.race_finder.specs.declared.forks.Fork.{Fork}
+use Rattle.race_finder.specs.declared.forks.Fork.TheVariants as fork
 use Rattle.race_finder.specs.Places.{Placed}
 use Rattle.race_finder.specs.Finding.{IsDoerOf, AreDoersOf}
 
@@ -34,6 +36,11 @@ CreatesOne places doer child places' doer' kid =
     (s : List Event) (task code : ℕ) (args : List Value) → IsSound (and_then s task doer.at.number (Creates code child kid.at.number doer'.at.number args))
     → AreOrders s places.english places.hebrew → IsDoerOf s task doer
     → AreForked (and_then s task doer.at.number (Creates code child kid.at.number doer'.at.number args)) places' task child doer' kid
+
+-- the same where it forks so
+abbrev pub ForksOne : Fork → Placed → Doer → ℕ → Placed → Doer → Doer → Type 0
+ForksOne fork.Spawn places doer child places' doer' kid = SpawnsOne places doer child places' doer' kid
+ForksOne fork.Create places doer child places' doer' kid = CreatesOne places doer child places' doer' kid
 
 -- a task is remembered as before, but for its list's room
 pub record IsSameDoer (old new : Doer) : Type 0 where

@@ -13,6 +13,8 @@ use Rattle.access_shards.specs.Logged.{Logged, IsLogOf}
 use Rattle.access_shards.specs.Histories.{kind_of, touches_of, IsInStep}
 use Rattle.race_finder.specs.declared.doer.Doer.{Doer}
 use Rattle.race_finder.specs.declared.finder.Finder.{Finder}
+use Rattle.race_finder.specs.declared.forks.Fork.{Fork}
+use Rattle.race_finder.specs.declared.forks.Fork.TheVariants as fork
 
 abbrev pub last_if : Bool → ℕ → Option ℕ
 last_if true v = Some v
@@ -84,6 +86,11 @@ pub record IsSpawnBy (task child : ℕ) (e : Event) : Type 0 where
 pub record IsCreateBy (task child : ℕ) (e : Event) : Type 0 where
   pub task_is : e.task ≡ task
   pub acts : (code : ℕ) × (kid : ℕ) × (cont : ℕ) × (args : List Value) × (e.action ≡ Creates code child kid cont args)
+
+-- a task forks so: it spawns this child, or creates this future
+abbrev pub IsForkBy : Fork → ℕ → ℕ → Event → Type 0
+IsForkBy fork.Spawn task child e = IsSpawnBy task child e
+IsForkBy fork.Create task child e = IsCreateBy task child e
 
 -- a task goes on after it waited for a future
 pub record IsGetBy (task future : ℕ) (e : Event) : Type 0 where

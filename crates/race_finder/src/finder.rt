@@ -5,11 +5,11 @@ ghost use Rattle.fut_base.specs.Events.{event_of};
 ghost use Rattle.fut_base.specs.Racing.{IsReport};
 ghost use Rattle.access_shards.specs.Histories.{IsInStep};
 ghost use Rattle.access_shards.specs.Kept.{IsKept};
-ghost use Rattle.race_finder.specs.Finding.{IsFinderOf, MayTake, Takes, Stays, IsAccessBy, IsSpawnBy, IsCreateBy, IsSyncBy, IsGetBy, IsEndBy};
+ghost use Rattle.race_finder.specs.Finding.{IsFinderOf, MayTake, Takes, Stays, IsAccessBy, IsForkBy, IsSyncBy, IsGetBy, IsEndBy};
 
 use crate::cells::{grow, keep, report};
 use crate::doer::Doer;
-use crate::forks::{create_one, spawn_one};
+use crate::forks::{Fork, fork_one};
 use crate::joins::{first_last, get_one, sync_one, table_after_get, table_of_block};
 use crate::places::Places;
 use access_shards::CellLog;
@@ -61,8 +61,8 @@ impl Finder {
         match &entry.act {
             Act::Read { cell, .. } => self.access(entry.task, *cell, false),
             Act::Write { cell, .. } => self.access(entry.task, *cell, true),
-            Act::Spawn { child, .. } => self.spawn(entry.task, *child),
-            Act::Create { child, .. } => self.create(entry.task, *child),
+            Act::Spawn { child, .. } => self.fork(entry.task, *child, Fork::Spawn),
+            Act::Create { child, .. } => self.fork(entry.task, *child, Fork::Create),
             Act::Sync { .. } => self.sync(entry.task),
             Act::Get { future, .. } => self.get(entry.task, *future),
             Act::End { .. } => {
@@ -99,38 +99,20 @@ impl Finder {
         Ok(())
     }
 
-    // A task spawns this child.
-    fn spawn(&mut self, task: u32, child: u32) -> Result<(), NoMemory>
-        requires { MayTake (IsSpawnBy task child) self.old }
-        ensures takes { OnOk result (Takes (IsSpawnBy task child) self.old self.new) }
+    // A task spawns this child, or creates this future.
+    fn fork(&mut self, task: u32, child: u32, fork: Fork) -> Result<(), NoMemory>
+        requires { MayTake (IsForkBy fork task child) self.old }
+        ensures takes { OnOk result (Takes (IsForkBy fork task child) self.old self.new) }
         ensures stays { OnErr result (Stays self.old self.new) }
     {
         self.places.reserve(2)?;
         self.doers.reserve(1)?;
-        let kid = spawn_one(
+        let kid = fork_one(
             self.alloc,
             &mut self.places,
             &mut self.doers[task as usize],
             child,
-        )?;
-        self.doers.push_reserved(kid);
-        self.count += 1;
-        Ok(())
-    }
-
-    // A task creates this future.
-    fn create(&mut self, task: u32, child: u32) -> Result<(), NoMemory>
-        requires { MayTake (IsCreateBy task child) self.old }
-        ensures takes { OnOk result (Takes (IsCreateBy task child) self.old self.new) }
-        ensures stays { OnErr result (Stays self.old self.new) }
-    {
-        self.places.reserve(2)?;
-        self.doers.reserve(1)?;
-        let kid = create_one(
-            self.alloc,
-            &mut self.places,
-            &mut self.doers[task as usize],
-            child,
+            fork,
         )?;
         self.doers.push_reserved(kid);
         self.count += 1;
