@@ -47,7 +47,7 @@ fn keep(
     if at.number >= judge.lists.english().len() {
         return Err("no such strand")?;
     }
-    if !are_known(&judge.lists, reach.strands()) {
+    if !are_known(&judge.lists, reach.strands()?.as_slice()) {
         return Err("no such strand")?;
     }
     log.reserve()?;

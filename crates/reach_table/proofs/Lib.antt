@@ -8,5 +8,10 @@ pub mod Leaving
 pub mod Apart
 pub mod Agreeing
 pub mod Putting
+pub mod Masks
+pub mod Blocks
+pub mod Held
+pub mod Joins
+pub mod Found
 pub mod Reaching
 pub mod Events

@@ -35,7 +35,7 @@ with_none one other both last is iff w =
     ) in
     subst P (sym is) k
 
-greatest_same : (lists : Lists) (own : ℕ) (xs ys : List Strand) → ((w : Strand) → Among w xs ↔ Among w ys) → (w : Strand) → IsGreatest lists own xs w → IsGreatest lists own ys w
+pub greatest_same : (lists : Lists) (own : ℕ) (xs ys : List Strand) → ((w : Strand) → Among w xs ↔ Among w ys) → (w : Strand) → IsGreatest lists own xs w → IsGreatest lists own ys w
 greatest_same lists own xs ys iff w g = record { among = (iff w).0 g.among; foreign = g.foreign; greatest = λ x a e n. g.greatest x ((iff x).1 a) e n }
 
 -- the greatest of all strands of two tables

@@ -5,7 +5,9 @@
 //! v's table (`laws`). `Reach` is such a table; tables of several strands share their memory.
 #![tactic(auto)]
 
+mod block;
 mod group;
+mod joining;
 pub mod laws;
 mod merging;
 mod reach;

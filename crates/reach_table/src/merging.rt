@@ -103,7 +103,8 @@ pub fn gathered(
     Ok(all)
 }
 
-fn precedes_by(lists: &Still, x: Strand, y: Strand) -> bool
+/// Whether one strand stands before another in both lists.
+pub fn precedes_by(lists: &Still, x: Strand, y: Strand) -> bool
     requires x_in { x.number < length lists.now.english.order }
     requires y_in { y.number < length lists.now.english.order }
     ensures { result ≡ precedes_in lists.now x.number y.number }
@@ -164,8 +165,8 @@ fn is_greatest(lists: &Still, own: u32, place: usize, strands: &[Strand]) -> boo
     !precedes_one(lists, at, of_future(strands, at.future))
 }
 
-// Whether each of the strands from one place to another is of a lower future than the next.
-fn rises(strands: &[Strand], from: usize, to: usize) -> bool
+/// Whether each of the strands from one place to another is of a lower future than the next.
+pub fn rises(strands: &[Strand], from: usize, to: usize) -> bool
     requires order { from ≤ to }
     requires within { to < length strands.now }
     ensures { result ≡ true → (n : ℕ) → from ≤ n → n < to → (strand_at strands.now n).future < (strand_at strands.now (n + 1)).future }

@@ -6,11 +6,13 @@ ghost use Rattle.fut_base.specs.Dag.{Among};
 ghost use Rattle.strand_tree.specs.declared.strand.Strand.{Strand};
 ghost use Rattle.reach_table.specs.Sorted.{IsRising};
 ghost use Rattle.reach_table.specs.Telling.{HasTable, AllKnown, TellsReach, HasMovedLast, AsksAtMost};
+ghost use Rattle.reach_table.specs.Blocks.{flat, values, AreBlocks};
 ghost use Rattle.reach_table.specs.Merging.{together, IsGreatest};
 ghost use Rattle.reach_table.specs.Tabled.{AfterSpawn, AfterCreate, KidAfterCreate, AfterGet, MergesOneMore};
 
-use crate::group::{is_or_precedes, of_future, reaches_one};
-use crate::merging::{gathered, greatest, union};
+use crate::block::{Shared, all_strands, strands_of_future, with_one};
+use crate::group::{is_or_precedes, reaches_one};
+use crate::joining::join;
 use fut_base::list::NoMemory;
 use order_list::{Judge, Moved, Still};
 use std::alloc::Global;
@@ -23,7 +25,7 @@ use strand_tree::Strand;
 #[derive(Drop)]
 pub struct Reach {
     alloc: Global,
-    shared: Option<ArcSlice<Strand>>,
+    shared: Option<ArcSlice<Shared>>,
 }
 
 impl Model for Reach {
@@ -31,13 +33,13 @@ impl Model for Reach {
     ghost use Rattle.std.specs.Arc.{arc_slice_items};
     ghost use Rattle.std.specs.Option.{option_map_or};
     ghost use Rattle.strand_tree.specs.declared.strand.Strand.{Strand};
-    ghost use Rattle.reach_table.specs.Sorted.{IsRising};
+    ghost use Rattle.reach_table.specs.Blocks.{flat, values, AreBlocks};
 
     ghost Value = { List Strand };
 
-    ghost view = { λ r. option_map_or arc_slice_items r.shared [] };
+    ghost view = { λ r. flat (values (option_map_or arc_slice_items r.shared [])) };
 
-    ghost invariant = { λ r. IsRising (option_map_or arc_slice_items r.shared []) };
+    ghost invariant = { λ r. AreBlocks (values (option_map_or arc_slice_items r.shared [])) };
 }
 
 impl Reach {
@@ -53,9 +55,17 @@ impl Reach {
     }
 
     /// The strands, by future and then by number, each once.
-    pub fn strands(&self) -> &[Strand]
-        ensures strands { result.now ≡ self.now }
+    pub fn strands(&self) -> Result<Vec<Strand>, NoMemory>
+        ensures strands { IfOk result (λ all. all.items ≡ self.now) }
         ensures rising { IsRising self.now }
+    {
+        all_strands(self.alloc, self.blocks())
+    }
+
+    // The blocks.
+    fn blocks(&self) -> &[Shared]
+        ensures blocks { AreBlocks (values result.now) }
+        ensures strands { flat (values result.now) ≡ self.now }
     {
         match &self.shared {
             Some(shared) => shared.as_slice(),
@@ -81,8 +91,8 @@ impl Reach {
         ensures strands { IfOk result (λ table. (w : Strand) → Among w table ↔ Among w (self.now ++ from ∷ [])) }
         ensures after_create { IfOk result (λ table. KidAfterCreate self.now from table) }
     {
-        let strands = union(self.alloc, self.strands(), &[from])?;
-        self.made(strands)
+        let blocks = with_one(self.alloc, self.blocks(), from)?;
+        self.made(blocks)
     }
 
     /// The table of a strand of future `own` that goes on where strands with these two tables, and `last`, have ended:
@@ -100,9 +110,8 @@ impl Reach {
         ensures after_get { IfOk result (λ table. AfterGet lists.now own self.now other.now last table) }
         ensures one_more { IfOk result (λ table. MergesOneMore lists.now own self.now other.now last table) }
     {
-        let strands = gathered(self.alloc, self.strands(), other.strands(), last)?;
-        let left = greatest(self.alloc, strands.as_slice(), own, lists)?;
-        self.made(left)
+        let blocks = join(self.alloc, self.blocks(), other.blocks(), last, own, lists)?;
+        self.made(blocks)
     }
 
     /// Whether u is v or a path leads from u to v, whose table this is, by a judge that knows u, v and the strands of the
@@ -120,15 +129,18 @@ impl Reach {
         if u.future == v.future {
             return is_or_precedes(judge, u, v);
         }
-        reaches_one(judge, u, of_future(self.strands(), u.future))
+        reaches_one(judge, u, strands_of_future(self.blocks(), u.future))
     }
 
-    // A table of these strands, with the same allocator.
-    fn made(&self, strands: Vec<Strand>) -> Result<Reach, NoMemory>
-        requires { IsRising strands.items }
-        ensures { IfOk result (λ table. table ≡ strands.items) }
+    // A table of these blocks, with the same allocator.
+    fn made(&self, blocks: Vec<Shared>) -> Result<Reach, NoMemory>
+        requires { AreBlocks (values blocks.items) }
+        ensures { IfOk result (λ table. table ≡ flat (values blocks.items)) }
     {
-        let shared = ArcSlice::from_vec(strands)?;
+        if blocks.is_empty() {
+            return Ok(Reach::empty(self.alloc));
+        }
+        let shared = ArcSlice::from_vec(blocks)?;
         Ok(Reach {
             alloc: self.alloc,
             shared: Some(shared),

@@ -22,6 +22,16 @@ fn are_known(lists: &Still, strands: &[Strand]) -> bool
     true
 }
 
+// Whether both lists have all strands of a table.
+fn has_known(lists: &Still, table: &Reach) -> bool
+    ensures { IsTrue result → AllKnown (length lists.now.english.order) table.now }
+{
+    match table.strands() {
+        Ok(strands) => are_known(lists, strands.as_slice()),
+        Err(_) => false,
+    }
+}
+
 // Adds the table of a strand that has another's table.
 fn share(tables: &mut Vec<Reach>, at: usize) -> Option<()> {
     let table = tables.get(at)?.share().ok()?;
@@ -35,10 +45,10 @@ fn create_on(tables: &mut Vec<Reach>, at: Strand) -> Option<()> {
 }
 
 fn merge(one: &Reach, other: &Reach, own: u32, last: Strand, lists: &Still) -> Option<Reach> {
-    if !are_known(lists, one.strands()) {
+    if !has_known(lists, one) {
         return None;
     }
-    if !are_known(lists, other.strands()) {
+    if !has_known(lists, other) {
         return None;
     }
     if last.number >= lists.english().len() {
@@ -59,7 +69,7 @@ fn get_on(tables: &mut Vec<Reach>, at: Strand, last: Strand, lists: &Still) -> O
 fn told(tables: &[Reach], lists: &mut Still, u: Strand, v: Strand) -> Option<bool> {
     let table = tables.get(v.number as usize)?;
     let known = lists.english().len();
-    if u.number >= known || v.number >= known || !are_known(lists, table.strands()) {
+    if u.number >= known || v.number >= known || !has_known(lists, table) {
         return None;
     }
     table.try_reaches(lists, u, v).ok()
@@ -67,7 +77,7 @@ fn told(tables: &[Reach], lists: &mut Still, u: Strand, v: Strand) -> Option<boo
 
 // Whether a table has exactly the strands with these numbers, in this order.
 fn has(tables: &[Reach], at: usize, numbers: &[u32]) -> Option<bool> {
-    let strands = tables.get(at)?.strands();
+    let strands = tables.get(at)?.strands().ok()?;
     for (k, number) in numbers.iter().enumerate() {
         if strands.get(k)?.number != *number {
             return Some(false);
