@@ -1,10 +1,6 @@
 -- What is found where one more kept access is looked at.
 use Rattle.std.proofs.Common.{◌≡◌, ℕ, ◌<◌, List, [], ◌∷◌, ◌++◌, inl, inr, subst, ap, sym, refl, arith, ◌∙◌, append_assoc, Bool, ◌+◌, take, drop, length, get_or}
 use Rattle.std.proofs.lemmas.List.{take_more, take-append-drop}
-use Rattle.order_list.specs.declared.judge.Judge as judge
-use Rattle.order_list.specs.declared.judge.Moved.{Moved}
-use Rattle.order_list.specs.Frames.{IsAsBefore}
-use Rattle.reach_table.specs.Telling.{HasMovedLast}
 use Rattle.std.specs.Prelude.{Option, Some, None}
 use Rattle.fut_base.specs.declared.event.Event.{Event}
 use Rattle.fut_base.specs.Dag.{Among, ReachesBy, edges_of}
@@ -111,22 +107,6 @@ module _ (table : List Strand) (at : Strand) (known : ℕ) (english hebrew : Lis
 
   pub none_apart : FindsApart table at known english hebrew [] []
   none_apart s view of = record { those = λ b. ((λ h. absurd h), λ k. k.0); order = tt }
-
--- versions that were loaded last after the judge was asked before
-pub moved_on : {S H : Type 0} (g : judge.Ghosts S H) {r s t : S} (moved : Moved) → IsAsBefore g r s
-    → HasMovedLast moved (g.may_move s) (g.loaded s) (g.loaded t) → HasMovedLast moved (g.may_move r) (g.loaded r) (g.loaded t)
-moved_on g {r = r} moved before m =
-    let f = before.loads in
-    let last = moved.first ∷ moved.second ∷ [] in
-    record {
-      may = sym before.may_move ∙ m.may;
-      loads = (
-        f.0 ++ m.loads.0,
-        m.loads.1 ∙ ap (λ l. l ++ (m.loads.0 ++ last)) f.1 ∙ append_assoc (g.loaded r) f.0 (m.loads.0 ++ last)
-            ∙ ap (λ l. g.loaded r ++ l) (sym (append_assoc f.0 m.loads.0 last)),
-      );
-      differ = m.differ;
-    }
 
 -- stands where a list has no access
 abbrev pub no_access : Access

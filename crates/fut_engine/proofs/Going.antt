@@ -2,6 +2,7 @@
 use Rattle.std.proofs.Common.{◌≡◌, ℕ, ◌+◌, ◌<◌, ◌≤◌, Bool, true, false, List, [], ◌∷◌, ◌++◌, length, refl, sym, ap, ◌∙◌, subst, arith}
 use Rattle.std.specs.Prelude.{Option, Some, reverse, ℤ}
 use Rattle.std.proofs.lemmas.List.{reverse-append, append_assoc, append-nil}
+use Rattle.fut_base.specs.declared.limits.TheConstants.{MOST_CREATES}
 use Rattle.fut_base.specs.declared.record.Limits.{Limits}
 use Rattle.fut_base.specs.declared.record.Finish.{Finish}
 use Rattle.fut_base.specs.declared.record.Finish.TheVariants as finish
@@ -58,7 +59,7 @@ module _ (P : tree.Program) (code : Compiled) (limits : Limits) (start h : List 
       subst (λ l. (y : Goes P code limits start l new) × Stops P limits l y.machine f) (sym same)
       (record { machine = x.machine; replay = k; few = x.few; creates_few = x.creates_few; goes = x.goes }, s)
 
-  stops_hold : (now : ReplayNow) (x : Goes P code limits start h now) (f : Finish) → limits.futures ≡ 4096 → Stops P limits h x.machine f → FinishHolds P h f
+  stops_hold : (now : ReplayNow) (x : Goes P code limits start h now) (f : Finish) → limits.futures ≡ MOST_CREATES → Stops P limits h x.machine f → FinishHolds P h f
   stops_hold now x finish.Whole most s = (x.machine, x.replay.leads, s)
   stops_hold now x (finish.Events b) most (t, r, first, (is, many, may, full)) =
       (let few = x.few in omega (arith, is, many, few), not_whole P h x.machine t r x.replay.leads first.running)
@@ -67,7 +68,7 @@ module _ (P : tree.Program) (code : Compiled) (limits : Limits) (start h : List 
   stops_hold now x (finish.Futures u) most (t, r, first, (is, full)) =
       (x.machine, full.task, x.replay.leads, subst (λ n. IsRunning x.machine n full.task) (sym is) full.running, (let few = x.creates_few in let many = full.many in omega (arith, few, many, most)), full.wishes)
 
-  pub run_of : (now : ReplayNow) (x : Goes P code limits start h now) (f : Finish) → limits.futures ≡ 4096 → Stops P limits h x.machine f → IsRun P limits h f now.cells
+  pub run_of : (now : ReplayNow) (x : Goes P code limits start h now) (f : Finish) → limits.futures ≡ MOST_CREATES → Stops P limits h x.machine f → IsRun P limits h f now.cells
   run_of now x f most s =
       record { machine = x.machine; leads = x.replay.leads; few = x.few; creates_few = x.creates_few; ends = ends_of P limits h x.machine f s; holds = stops_hold now x f most s; cells_are = x.replay.cells }
 

@@ -1,6 +1,7 @@
 -- What a turn does to the value behind the lock.
 use Rattle.std.proofs.Common.{◌≡◌, ℕ, zero, suc, ◌+◌, ◌-◌, ◌^◌, ◌<◌, ◌≤◌, true, false, List, [], ◌∷◌, ◌++◌, length, ◌⊎◌, inl, inr, refl, sym, ap, ◌∙◌, subst, arith, length-append}
 use Rattle.std.specs.Prelude.{Option, Some, None, slice_get}
+use Rattle.fut_base.specs.declared.limits.TheConstants.{MOST_ENTRIES}
 use Rattle.fut_base.specs.declared.record.Value.{Value}
 use Rattle.fut_base.specs.declared.record.Limits.{Limits}
 use Rattle.fut_base.specs.declared.event.Event.{Event}
@@ -94,7 +95,7 @@ some_unended m t (c ∷ cs) (inr i) none = let rest = some_unended m t cs i none
 
 -- ---- an event is made
 
-module _ (P : tree.Program) (h : List Event) (m n : Machine) (e : Event) (step : IsStep P m e n) (l : Leads P (opening P) h m) (seats : List Seat) (a : AreSeated P m seats) (few : length h < 1000000) where
+module _ (P : tree.Program) (h : List Event) (m n : Machine) (e : Event) (step : IsStep P m e n) (l : Leads P (opening P) h m) (seats : List Seat) (a : AreSeated P m seats) (few : length h < MOST_ENTRIES) where
   own_seat : (s : Seat) × (slice_get seats e.task ≡ Some s) × IsSeat P m seats e.task step.task s
   own_seat = seat_of P m seats a e.task step.task step.present
 
@@ -151,15 +152,15 @@ module _ (P : tree.Program) (h : List Event) (m n : Machine) (e : Event) (step :
   settled free new ready (Ends v) does x = ended P h m n e step v does l seats a x.before x.present free new ready x
 
 module _ (P : tree.Program) (code : Compiled) (limits : Limits) (h : List Event) (run : ReplayNow) (seats : List Seat) (x : Holds P code limits h run seats) (t : ℕ) where
-  pub settles_now : (events : limits.events ≤ 1000000) (now : ReplayNow) (e : Event) → IsMade P code limits h x.machine t e now → MaySettle seats t e.action
+  pub settles_now : (events : limits.events ≤ MOST_ENTRIES) (now : ReplayNow) (e : Event) → IsMade P code limits h x.machine t e now → MaySettle seats t e.action
   settles_now events now e made = subst (λ k. MaySettle seats k e.action) made.task (may_settle P h x.machine made.next e made.step x.replay.leads seats x.seated (let few = made.few in omega (arith, few, events)))
 
   -- an event was made
-  pub gone : (events : limits.events ≤ 1000000) (now : ReplayNow) (g : List Event) (new : List Seat) (e : Event) (ready : List ℕ) (r : Running) → IsRunning x.machine t r → waits_for seats t ≡ None → IsMade P code limits h x.machine t e now
+  pub gone : (events : limits.events ≤ MOST_ENTRIES) (now : ReplayNow) (g : List Event) (new : List Seat) (e : Event) (ready : List ℕ) (r : Running) → IsRunning x.machine t r → waits_for seats t ≡ None → IsMade P code limits h x.machine t e now
       → Settles seats t e.action new ready → g ≡ h ++ e ∷ [] → Holds P code limits g now new × (CanTurn x.machine seats t × HasGone P limits x.machine (seen h seats) t (seen g new) ready)
   gone events now g new e ready r running free made settles is =
       let few = made.few in
-      let below : length h < 1000000 = omega (arith, few, events) in
+      let below : length h < MOST_ENTRIES = omega (arith, few, events) in
       let both = settled P h x.machine made.next e made.step x.replay.leads seats x.seated below (subst (λ k. waits_for seats k ≡ None) (sym made.task) free) new ready e.action refl (subst (λ k. Settles seats k e.action new ready) (sym made.task) settles) in
       let more = longer h e in
       let length_is = ap length is in (

@@ -1,5 +1,6 @@
 -- What the value behind the lock keeps.
 use Rattle.std.specs.Prelude.{◌≡◌, ℕ, zero, suc, ◌+◌, ◌<◌, ◌≤◌, List, [], ◌∷◌, length, slice_get, Option, Some, None, ◌↔◌}
+use Rattle.fut_base.specs.declared.limits.TheConstants.{MOST_CREATES, MOST_ENTRIES, MOST_LOCAL_STEPS}
 use Rattle.fut_base.specs.declared.record.Value.{Value}
 use Rattle.fut_base.specs.declared.record.Limits.{Limits}
 use Rattle.fut_base.specs.declared.event.Event.{Event}
@@ -81,9 +82,9 @@ AlwaysHolds code limits h run seats = (P : tree.Program) → IsWellTyped P → I
 -- the code is of a program, and the limits are those of a run
 pub record IsNamed (code : Compiled) (limits : Limits) : Type 0 where
   pub program : (P : tree.Program) × IsWellTyped P × IsCodeOf P code
-  pub local : limits.local_steps ≡ 1000000
-  pub events : limits.events ≤ 1000000
-  pub futures : limits.futures ≡ 4096
+  pub local : limits.local_steps ≡ MOST_LOCAL_STEPS
+  pub events : limits.events ≤ MOST_ENTRIES
+  pub futures : limits.futures ≡ MOST_CREATES
 
 -- what stands behind the lock: a run of the named code within the named limits
 pub record IsKept (code : Compiled) (named limits : Limits) (h : List Event) (run : ReplayNow) (seats : List Seat) : Type 0 where

@@ -1,5 +1,6 @@
 //! A run on workers.
 ghost use Rattle.std.specs.Prelude.{◌≡◌, ◌≤◌, length, IfOk};
+ghost use Rattle.fut_base.specs.declared.limits.TheConstants.{MOST_CREATES, MOST_ENTRIES, MOST_LOCAL_STEPS, MOST_WORKERS};
 ghost use Rattle.fut_base.specs.Events.{events_of};
 ghost use Rattle.fut_base.specs.Racing.{IsReport};
 ghost use Rattle.fut_syntax.specs.Trees as tree;
@@ -53,7 +54,7 @@ fn work_all<J: Naming + Send + Sync, C: Lends + Sync, G: Gate + Sync, R: Threads
     gate: &G,
 ) -> Result<(), NoMemory>
     requires code { C.lent code.now ≡ J.code }
-    requires workers { (1 ≤ workers) × (workers ≤ 64) }
+    requires workers { (1 ≤ workers) × (workers ≤ MOST_WORKERS) }
 {
     let owns = zeros(alloc, workers)?;
     let sharing = Sharing {
@@ -77,7 +78,7 @@ fn run_named<J: Naming + Send + Sync, G: Gate + Sync, R: Threads + Wait + Sync>(
     requires code { code.now ≡ J.code }
     requires limits { options.limits ≡ J.limits }
     requires name { IsNamed code.now options.limits }
-    requires workers { (1 ≤ options.workers) × (options.workers ≤ 64) }
+    requires workers { (1 ≤ options.workers) × (options.workers ≤ MOST_WORKERS) }
     ensures run { IfOk result (λ ran. (P : tree.Program) → IsWellTyped P → IsCodeOf P code.now → IsRun P options.limits (events_of ran.history) ran.finish ran.cells.items) }
     ensures races { IfOk result (λ ran. IsReport (events_of ran.history) ran.races.items) }
     ensures never_stuck { IfOk result (λ ran. (P : tree.Program) → IsWellTyped P → IsCodeOf P code.now → IsNeverStuck P (events_of ran.history)) }
@@ -97,10 +98,10 @@ pub fn run<G: Gate + Sync, R: Threads + Wait + Sync>(
     gate: &G,
 ) -> Result<Ran, NoMemory>
     requires program { (P : tree.Program) × IsWellTyped P × IsCodeOf P code.now }
-    requires workers { (1 ≤ options.workers) × (options.workers ≤ 64) }
-    requires local { options.limits.local_steps ≡ 1000000 }
-    requires events { options.limits.events ≤ 1000000 }
-    requires futures { options.limits.futures ≡ 4096 }
+    requires workers { (1 ≤ options.workers) × (options.workers ≤ MOST_WORKERS) }
+    requires local { options.limits.local_steps ≡ MOST_LOCAL_STEPS }
+    requires events { options.limits.events ≤ MOST_ENTRIES }
+    requires futures { options.limits.futures ≡ MOST_CREATES }
     ensures run { IfOk result (λ ran. (P : tree.Program) → IsWellTyped P → IsCodeOf P code.now → IsRun P options.limits (events_of ran.history) ran.finish ran.cells.items) }
     ensures races { IfOk result (λ ran. IsReport (events_of ran.history) ran.races.items) }
     ensures never_stuck { IfOk result (λ ran. (P : tree.Program) → IsWellTyped P → IsCodeOf P code.now → IsNeverStuck P (events_of ran.history)) }

@@ -3,7 +3,9 @@ use Rattle.std.proofs.Common.{◌≡◌, ◌≢◌, ℕ, ◌+◌, ◌<◌, Bool,
 use Rattle.std.specs.Prelude.{◌↔◌}
 use Rattle.std.proofs.lemmas.List.{append_assoc}
 use Rattle.order_list.specs.declared.judge.Sides.{Sides}
+use Rattle.order_list.specs.declared.judge.Judge as judge
 use Rattle.order_list.specs.declared.judge.Moved.{Moved}
+use Rattle.order_list.specs.Frames.{IsAsBefore}
 use Rattle.order_list.specs.Sides.{AreSides}
 use Rattle.fut_base.specs.declared.event.Event.{Event}
 use Rattle.fut_base.specs.Dag.{Among}
@@ -114,17 +116,21 @@ told sides a b x y english hebrew answer ax byy ne are both =
       λ o. elim o [ inl e ↦ absurd (ne e) | inr k ↦ both.1 (first ∙ k.0, second ∙ k.1) ],
     )
 
--- one more load after others
-pub moved_after : (moved : Moved) (may may' : Bool) (before mid after more : List ℕ) → mid ≡ before ++ more → may' ≡ may → HasMovedLast moved may' mid after → HasMovedLast moved may before after
-moved_after moved may may' before mid after more is same m =
+-- versions that were loaded last after the judge was asked before
+pub moved_on : {S H : Type 0} (g : judge.Ghosts S H) {r s t : S} (moved : Moved) → IsAsBefore g r s
+    → HasMovedLast moved (g.may_move s) (g.loaded s) (g.loaded t) → HasMovedLast moved (g.may_move r) (g.loaded r) (g.loaded t)
+moved_on g {r = r} moved before m =
+    let f = before.loads in
+    let last = moved.first ∷ moved.second ∷ [] in
     record {
-      may = sym same ∙ m.may;
-      loads = (more ++ m.loads.0, m.loads.1 ∙ ap (λ l. l ++ (m.loads.0 ++ moved.first ∷ moved.second ∷ [])) is ∙ rw (append_assoc, append_assoc) refl);
+      may = sym before.may_move ∙ m.may;
+      loads = (
+        f.0 ++ m.loads.0,
+        m.loads.1 ∙ ap (λ l. l ++ (m.loads.0 ++ last)) f.1 ∙ append_assoc (g.loaded r) f.0 (m.loads.0 ++ last)
+            ∙ ap (λ l. g.loaded r ++ l) (sym (append_assoc f.0 m.loads.0 last)),
+      );
       differ = m.differ;
     }
-
-pub loads_after : (before mid after : List ℕ) → ((more : List ℕ) × (mid ≡ before ++ more)) → ((more : List ℕ) × (after ≡ mid ++ more)) → (more : List ℕ) × (after ≡ before ++ more)
-loads_after before mid after h k = (h.0 ++ k.0, k.1 ∙ ap (λ l. l ++ k.0) h.1 ∙ append_assoc before h.0 k.0)
 
 -- a further strand that is not reached
 pub one_more : (english hebrew english' hebrew' : List ℕ) (x : ℕ) (ws : List Strand) (i : ℕ) (d : Strand) (answer : Bool) → i < length ws → english' ≡ english → hebrew' ≡ hebrew → (ReachesOne english hebrew x (take i ws) → ⊥) → (answer ≡ true) ↔ IsOrPrecedes english' hebrew' x (get_or ws i d).number → answer ≡ false → ReachesOne english hebrew x (take (i + 1) ws) → ⊥

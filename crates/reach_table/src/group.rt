@@ -1,5 +1,6 @@
 //! The strands of one future in a table, and whether one of them is reached.
-ghost use Rattle.std.specs.Prelude.{◌≡◌, ℕ, ◌+◌, ◌<◌, ◌≤◌, ◌++◌, ◌↔◌, true, List, length, take, drop, IfOk, IfErr};
+ghost use Rattle.std.specs.Prelude.{◌≡◌, ◌+◌, ◌<◌, ◌≤◌, ◌↔◌, true, length, take, drop, IfOk, IfErr};
+ghost use Rattle.order_list.specs.Frames.{IsAsBefore};
 ghost use Rattle.fut_base.specs.Dag.{Among};
 ghost use Rattle.strand_tree.specs.declared.strand.Strand.{Strand};
 ghost use Rattle.reach_table.specs.Sorted.{IsRising};
@@ -45,13 +46,8 @@ pub fn is_or_precedes<J: Judge>(judge: &mut J, u: Strand, w: Strand) -> Result<b
     requires w_known { w.number < J.known judge.old }
     ensures tells { IfOk result (λ yes. (yes ≡ true) ↔ IsOrPrecedes (J.english judge.old) (J.hebrew judge.old) u.number w.number) }
     ensures moved { IfErr result (λ moved. HasMovedLast moved (J.may_move judge.old) (J.loaded judge.old) (J.loaded judge.new)) }
-    ensures loads { (more : List ℕ) × (J.loaded judge.new ≡ J.loaded judge.old ++ more) }
     ensures asks { J.asked judge.new ≤ J.asked judge.old + 1 }
-    ensures known { J.known judge.new ≡ J.known judge.old }
-    ensures english { J.english judge.new ≡ J.english judge.old }
-    ensures hebrew { J.hebrew judge.new ≡ J.hebrew judge.old }
-    ensures may_move { J.may_move judge.new ≡ J.may_move judge.old }
-    ensures home { J.home judge.new ≡ J.home judge.old }
+    ensures judge { IsAsBefore J.Judge judge.old judge.new }
 {
     if u.number == w.number {
         return Ok(true);
@@ -66,13 +62,8 @@ pub fn reaches_one<J: Judge>(judge: &mut J, u: Strand, strands: &[Strand]) -> Re
     requires strands_known { AllKnown (J.known judge.old) strands.now }
     ensures tells { IfOk result (λ yes. (yes ≡ true) ↔ ReachesOne (J.english judge.old) (J.hebrew judge.old) u.number strands.now) }
     ensures moved { IfErr result (λ moved. HasMovedLast moved (J.may_move judge.old) (J.loaded judge.old) (J.loaded judge.new)) }
-    ensures loads { (more : List ℕ) × (J.loaded judge.new ≡ J.loaded judge.old ++ more) }
     ensures asks { J.asked judge.new ≤ J.asked judge.old + length strands.now }
-    ensures known { J.known judge.new ≡ J.known judge.old }
-    ensures english { J.english judge.new ≡ J.english judge.old }
-    ensures hebrew { J.hebrew judge.new ≡ J.hebrew judge.old }
-    ensures may_move { J.may_move judge.new ≡ J.may_move judge.old }
-    ensures home { J.home judge.new ≡ J.home judge.old }
+    ensures judge { IsAsBefore J.Judge judge.old judge.new }
 {
     for w in strands {
         if is_or_precedes(judge, u, *w)? {

@@ -40,9 +40,9 @@ fn begins_with(strands: &[Strand], other: &[Strand]) -> bool
     }
     let mut same = true;
     for n in 0..other.len() {
-        if other[n] != strands[n] {
-            same = false;
-        }
+        same = same
+            & (other[n].number == strands[n].number)
+            & (other[n].future == strands[n].future);
     }
     same
 }

@@ -1,5 +1,6 @@
 //! The table of a strand.
 ghost use Rattle.std.specs.Prelude.{◌≡◌, ℕ, ◌<◌, ◌++◌, ◌↔◌, List, [], ◌∷◌, length, IfOk, IfErr};
+ghost use Rattle.order_list.specs.Frames.{IsAsBefore};
 ghost use Rattle.order_list.specs.Sides.{Lists};
 ghost use Rattle.fut_base.specs.Dag.{Among};
 ghost use Rattle.strand_tree.specs.declared.strand.Strand.{Strand};
@@ -122,18 +123,8 @@ impl Reach {
         requires table_known { AllKnown (J.known judge.old) self.now }
         ensures tells { IfOk result (λ yes. TellsReach self.now u v (J.known judge.old) (J.english judge.old) (J.hebrew judge.old) yes) }
         ensures moved { IfErr result (λ moved. HasMovedLast moved (J.may_move judge.old) (J.loaded judge.old) (J.loaded judge.new)) }
-
-        // What the judge loads is added at the end.
-        ensures loads { (more : List ℕ) × (J.loaded judge.new ≡ J.loaded judge.old ++ more) }
-
         ensures asks { AsksAtMost self.now 1 (J.asked judge.old) (J.asked judge.new) }
-
-        // The rest of the judge stays.
-        ensures known { J.known judge.new ≡ J.known judge.old }
-        ensures english { J.english judge.new ≡ J.english judge.old }
-        ensures hebrew { J.hebrew judge.new ≡ J.hebrew judge.old }
-        ensures may_move { J.may_move judge.new ≡ J.may_move judge.old }
-        ensures home { J.home judge.new ≡ J.home judge.old }
+        ensures judge { IsAsBefore J.Judge judge.old judge.new }
     {
         if u.future == v.future {
             return is_or_precedes(judge, u, v);

@@ -5,8 +5,9 @@ use Rattle.access_shards.specs.Kept.{all_kept}
 use Rattle.access_shards.specs.Finding.{FindsLast}
 use Rattle.strand_laws.proofs.Places.{among_left, among_right}
 use Rattle.order_list.proofs.Frames.{asked_again}
+use Rattle.reach_table.proofs.Reaching.{moved_on}
 use Rattle.fut_base.proofs.Members.{at_place}
-use Rattle.access_shards.proofs.Looking.{no_access, moved_on, look_step, looks_at}
+use Rattle.access_shards.proofs.Looking.{no_access, look_step, looks_at}
 use Rattle.access_shards.proofs.finding.last_unreached.Goals as goal
 
 pub unreached_writer-requires-clause-writer_known : goal.unreached_writer-requires-clause-writer_known

@@ -3,8 +3,9 @@ use Rattle.fut_base.specs.Dag.{Among}
 use Rattle.std.proofs.lemmas.List.{take_more}
 use Rattle.access_shards.specs.Finding.{FindsApart}
 use Rattle.order_list.proofs.Frames.{asked_again}
+use Rattle.reach_table.proofs.Reaching.{moved_on}
 use Rattle.fut_base.proofs.Members.{at_place}
-use Rattle.access_shards.proofs.Looking.{no_access, moved_on, keep_step, keeps_at}
+use Rattle.access_shards.proofs.Looking.{no_access, keep_step, keeps_at}
 use Rattle.access_shards.proofs.finding.take_unreached.Goals as goal
 
 pub keep_unreached-requires-clause-access_known : goal.keep_unreached-requires-clause-access_known

@@ -1,9 +1,9 @@
-use Rattle.std.proofs.Common.{rules, ◌-◌, arith}
+use Rattle.std.proofs.Common.{◌-◌, arith}
 use Rattle.std.proofs.lemmas.Result.{err_from_is_err_and}
-use Rattle.order_list.specs.Frames.{IsAsBefore}
 use Rattle.order_list.proofs.Frames.{asked_again}
+use Rattle.reach_table.proofs.Reaching.{moved_on}
 use Rattle.fut_base.proofs.Members.{at_place}
-use Rattle.access_shards.proofs.Looking.{no_access, moved_on}
+use Rattle.access_shards.proofs.Looking.{no_access}
 use Rattle.access_shards.proofs.Rising.{drops_more, drops_end}
 use Rattle.access_shards.proofs.reading.count_left.Goals as goal
 
@@ -31,11 +31,10 @@ loop-left-preserved g c =
     let i = c.loop-left.invariant in
     let j = i.judge in
     let e = c.try_reaches.ensures in
-    let now : IsAsBefore g.J.Judge c.loop-left.judge c.try_reaches.new.judge = search rules in
     record {
       within = omega (arith, i.within);
       drops = drops_more c.args.reach.now c.args.at _ _ _ c.args.readers.now c.loop-left.left no_access _ _ _ c.in_ok-try_reaches.field-0
           j.known j.english j.hebrew (omega (arith, c.loop-left-test.true)) i.within c.in_ok-try_reaches.ensures.tells c.if-not-branch.false i.drops;
       asks = λ one. (let a = i.asks one in let b = e.asks one in omega (arith, a, b, c.loop-left-test.true));
-      judge = asked_again g.J.Judge j now;
+      judge = asked_again g.J.Judge j e.judge;
     }

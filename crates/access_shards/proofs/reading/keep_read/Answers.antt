@@ -3,7 +3,7 @@ use Rattle.std.proofs.lemmas.Result.{err_from_is_err_and}
 use Rattle.access_shards.specs.declared.kept.Access.{Access}
 use Rattle.access_shards.specs.Finding.{AllOnKnown}
 use Rattle.access_shards.specs.Reading.{EndsBefore}
-use Rattle.access_shards.proofs.Looking.{moved_on}
+use Rattle.reach_table.proofs.Reaching.{moved_on}
 use Rattle.access_shards.proofs.Rising.{keeps_all, all_at, read_at}
 use Rattle.access_shards.proofs.reading.keep_read.Goals as goal
 

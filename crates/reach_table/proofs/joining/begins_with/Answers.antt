@@ -1,14 +1,10 @@
-use Rattle.std.proofs.Common.{◌≡◌, ℕ, ◌+◌, ◌<◌, Bool, true, false, not, true≢false, List, length, get_or, take, inl, inr, refl, subst, sym, arith, ◌∙◌}
+use Rattle.std.proofs.Common.{◌≡◌, ℕ, ◌+◌, ◌<◌, ◌&&◌, ◌==◌, List, length, get_or, take, inl, inr, subst, sym, arith, ◌∙◌}
 use Rattle.std.proofs.lemmas.List.{take_all}
 use Rattle.fut_base.specs.Dag.{Among}
+use Rattle.strand_laws.proofs.Held.{is_eq}
 use Rattle.strand_tree.specs.declared.strand.Strand.{Strand}
-use Rattle.reach_table.proofs.Members.{at_place, in_more, equal_strands}
+use Rattle.reach_table.proofs.Members.{at_place, in_more, same_strand, and_left, and_right}
 use Rattle.reach_table.proofs.joining.begins_with.Goals as goal
-use Rattle.reach_table.proofs.joining.begins_with.Goals.{then-ne, else-ne}
-
-if_not : (b : Bool) → not b ≡ false → b ≡ true
-if_not true h = refl
-if_not false h = absurd (true≢false h)
 
 -- the next strand is the same
 same_more : (xs ws : List Strand) (n : ℕ) (d : Strand) → n < length xs → n < length ws → get_or xs n d ≡ get_or ws n d → ((x : Strand) → Among x (take n xs) → Among x ws) → (x : Strand) → Among x (take (n + 1) xs) → Among x ws
@@ -23,10 +19,12 @@ loop-n-preserved c = λ yes.
     let xs = c.args.other.now in
     let ws = c.args.strands.now in
     let n = c.loop-n.n in
-    elim c.if-ne.branch [
-      | then-ne w ↦ absurd (true≢false (sym yes ∙ w.same-is))
-      | else-ne w ↦ same_more xs ws n none c.loop-n-test.true (omega arith) (equal_strands (get_or xs n none) (get_or ws n none) _ refl (if_not _ (sym c.ne.ensures ∙ w.if-ne.false))) (c.loop-n.invariant (sym w.same-is ∙ yes))
-    ]
+    let x = get_or xs n none in
+    let w = get_or ws n none in
+    let both = and_left (c.loop-n.same && (x.number == w.number)) (x.future == w.future) yes in
+    let future = is_eq x.future w.future (and_right (c.loop-n.same && (x.number == w.number)) (x.future == w.future) yes) in
+    let number = is_eq x.number w.number (and_right c.loop-n.same (x.number == w.number) both) in
+    same_more xs ws n none c.loop-n-test.true (omega arith) (same_strand x w number future) (c.loop-n.invariant (and_left c.loop-n.same (x.number == w.number) both))
 
 pub returns : goal.returns
 returns c = λ yes x a.

@@ -1,7 +1,7 @@
 use Rattle.std.proofs.Common.{◌∙◌, ap, sym, subst, arith, option_to_list}
 use Rattle.std.proofs.lemmas.Result.{err_from_is_err_and}
 use Rattle.access_shards.specs.Finding.{FindsLast}
-use Rattle.access_shards.proofs.Looking.{moved_on}
+use Rattle.reach_table.proofs.Reaching.{moved_on}
 use Rattle.access_shards.proofs.Rising.{read_at}
 use Rattle.access_shards.proofs.Logging.{known_writer, known_readers, read_finds, read_keeps, strands_stay}
 use Rattle.access_shards.proofs.log.CellLog.read.Goals as goal
