@@ -182,6 +182,7 @@ module _ (P : tree.Program) (code : Compiled) (limits : Limits) (h : List Event)
             creates_few = made.creates_few;
             history = is;
             ready_are = subst (λ k. IsReady P made.next seats k e.action ready) made.task both.1;
+            settles = settles;
           },
         ),
       )
@@ -207,7 +208,7 @@ module _ (P : tree.Program) (code : Compiled) (limits : Limits) (h : List Event)
         subst (λ z. Holds P code limits z now new) (sym is) (record { machine = x.machine; replay = k; few = x.few; creates_few = x.creates_few; seated = p.seated }),
         (
           record { task = r; running = running; free = free },
-          record { future = o; waiting = w; waits = p.waits; others = p.others; history = is },
+          record { future = o; waiting = w; waits = p.waits; others = p.others; history = is; parks = parks },
         ),
       )
 

@@ -14,7 +14,7 @@ use Rattle.run_replay.specs.Next.{IsWaiting, IsSpent}
 use Rattle.fut_engine.specs.declared.seat.Seat.{Seat}
 use Rattle.fut_engine.specs.declared.made.Made.{Made}
 use Rattle.fut_engine.specs.declared.made.Made.TheVariants as made
-use Rattle.fut_engine.specs.Seats.{parent_at, waits_for, waiters_of}
+use Rattle.fut_engine.specs.Seats.{parent_at, waits_for, waiters_of, Parks, Settles}
 use Rattle.fut_engine.specs.Wholes.{Holds}
 
 -- what a caller sees of the value behind the lock: the events so far, and where the tasks wait
@@ -50,7 +50,7 @@ IsReady P next old t (Creates _ child _ _ _) ready = ready ≡ child ∷ t ∷ [
 IsReady P next old t (Ends _) ready = IsWoken P next old t ready
 IsReady P next old t _ ready = ready ≡ t ∷ []
 
--- one event of the task was made, which the limits let be made
+-- one event of the task was made, which the limits let be made, and the places where tasks wait were changed as its action says
 pub record HasGone (P : tree.Program) (limits : Limits) (m : Machine) (old : WholeNow) (t : ℕ) (new : WholeNow) (ready : List ℕ) : Type 0 where
   pub event : Event
   pub task : event.task ≡ t
@@ -60,14 +60,16 @@ pub record HasGone (P : tree.Program) (limits : Limits) (m : Machine) (old : Who
   pub creates_few : creates event.action ≡ true → create_count old.history < limits.futures
   pub history : new.history ≡ old.history ++ event ∷ []
   pub ready_are : IsReady P next old.seats t event.action ready
+  pub settles : Settles old.seats t event.action new.seats ready
 
--- the task has gone to wait, since its wish is not allowed, and no event was made
+-- the task has gone to wait, behind those who came before, since its wish is not allowed, and no event was made
 pub record HasParked (P : tree.Program) (m : Machine) (old : WholeNow) (t : ℕ) (new : WholeNow) : Type 0 where
   pub future : Option ℕ
   pub waiting : IsWaiting P m t future
   pub waits : waits_for new.seats t ≡ Some future
   pub others : (u : ℕ) → (u ≡ t → ⊥) → waits_for new.seats u ≡ waits_for old.seats u
   pub history : new.history ≡ old.history
+  pub parks : Parks old.seats t future new.seats
 
 -- what the answer on a turn says
 abbrev pub Turns : tree.Program → Limits → Machine → WholeNow → ℕ → WholeNow → Made → Type 0

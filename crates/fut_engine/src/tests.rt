@@ -96,7 +96,7 @@ fn is_replayed(alloc: Global, code: &Code, ran: &Ran) -> Result<bool, NoMemory>
 
 /// 511 tasks in a tree, whose leaves write a cell each; and the sum of what they wrote.
 const TREE: &str =
-    "cells a[256], sum[1]; task node(i: int, n: int) int { if n < 2 { a[i] = i; return 0; } var h: int = n / 2; spawn node(i, h); spawn node(i + h, h); sync; return 0; } task main() int { spawn node(0, 256); sync; var k: int; var s: int; while k < 256 { var v: int = a[k]; s = s + v; k = k + 1; } sum[0] = s; return s; }";
+    "cells a[256]; cells sum[1]; task node(i: int, n: int) int { if n < 2 { a[i] = i; return 0; } var h: int = n / 2; spawn node(i, h); spawn node(i + h, h); sync; return 0; } task main() int { spawn node(0, 256); sync; var k: int; var s: int; while k < 256 { var v: int = a[k]; s = s + v; k = k + 1; } sum[0] = s; return s; }";
 
 /// 300 futures, each of which waits for the one before.
 const CHAIN: &str =
@@ -104,7 +104,7 @@ const CHAIN: &str =
 
 /// 200 children that wait for one future, and write a cell each.
 const WAITERS: &str =
-    "cells a[200], sum[1]; task slow() int { var k: int; while k < 2000 { k = k + 1; } return 7; } task one(i: int, h: fut int) int { var v: int = get h; a[i] = v; return 0; } task main() int { var h: fut int = create slow(); var k: int; while k < 200 { spawn one(k, h); k = k + 1; } sync; k = 0; var s: int; while k < 200 { var v: int = a[k]; s = s + v; k = k + 1; } sum[0] = s; return s; }";
+    "cells a[200]; cells sum[1]; task slow() int { var k: int; while k < 2000 { k = k + 1; } return 7; } task one(i: int, h: fut int) int { var v: int = get h; a[i] = v; return 0; } task main() int { var h: fut int = create slow(); var k: int; while k < 200 { spawn one(k, h); k = k + 1; } sync; k = 0; var s: int; while k < 200 { var v: int = a[k]; s = s + v; k = k + 1; } sum[0] = s; return s; }";
 
 /// 400 children that add to one cell.
 const RACY: &str =

@@ -1,5 +1,5 @@
 //! The value behind the one event lock.
-ghost use Rattle.std.specs.Prelude.{◌≡◌, [], IfOk};
+ghost use Rattle.std.specs.Prelude.{◌≡◌, [], ◌∷◌, None, IfOk};
 ghost use Rattle.fut_base.specs.Events.{events_of};
 ghost use Rattle.fut_base.specs.Racing.{IsReport};
 ghost use Rattle.fut_syntax.specs.Trees as tree;
@@ -8,6 +8,7 @@ ghost use Rattle.task_code.specs.Flat.{IsCodeOf};
 ghost use Rattle.run_replay.specs.Serials.{IsNeverStuck};
 ghost use Rattle.fut_engine.specs.Going.{GoesFirst};
 ghost use Rattle.fut_engine.specs.Runs.{IsRun};
+ghost use Rattle.fut_engine.specs.Seats.{new_seat};
 ghost use Rattle.fut_engine.specs.Turns.{AlwaysTurns};
 ghost use Rattle.fut_engine.specs.Wholes.{IsNamed};
 
@@ -52,7 +53,7 @@ impl<J: Naming> Whole<J> {
         requires code { code.now ≡ J.code }
         requires limits { limits ≡ J.limits }
         requires name { IsNamed code.now limits }
-        ensures { IfOk result (λ whole. whole.history ≡ []) }
+        ensures { IfOk result (λ whole. (whole.history ≡ []) × (whole.seats ≡ new_seat None ∷ [])) }
     {
         let run = Replay::start(alloc, code)?;
         let mut seats = Vec::new(alloc);
