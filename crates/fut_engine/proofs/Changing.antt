@@ -1,5 +1,5 @@
 -- The seats after a step that ends no task.
-use Rattle.std.proofs.Common.{◌≡◌, ◌↔◌, ℕ, zero, suc, ◌+◌, ◌-◌, ◌<◌, ◌≤◌, List, [], ◌∷◌, ◌++◌, length, ◌⊎◌, inl, inr, refl, sym, ap, ◌∙◌, subst, arith, length-append}
+use Rattle.std.proofs.Common.{◌≡◌, ℕ, ◌+◌, ◌<◌, ◌≤◌, List, ◌++◌, length, inl, inr, refl, sym, ap, ◌∙◌, subst, arith, length-append}
 use Rattle.std.specs.Prelude.{Option, Some, None, option_and_then, slice_get, slice_set}
 use Rattle.fut_base.specs.declared.event.Event.{Event}
 use Rattle.fut_base.specs.Dag.{Among}
@@ -10,7 +10,7 @@ use Rattle.task_machine.proofs.Places.{get_below}
 use Rattle.strand_laws.proofs.Places.{same_or_not}
 use Rattle.run_replay.proofs.Lining.{set_length, get_set_here}
 use Rattle.fut_engine.specs.declared.seat.Seat.{Seat}
-use Rattle.fut_engine.specs.Seats.{value_at, parent_at, went_for, waits_by, waits_for}
+use Rattle.fut_engine.specs.Seats.{value_at, parent_at, went_for, waits_for}
 use Rattle.fut_engine.specs.Wholes.{IsOnce, unended, IsSeat, AreSeated}
 use Rattle.fut_engine.proofs.Lists.{some_same, set_else, append_low, append_high, get_none, low_or_high}
 use Rattle.fut_engine.proofs.Steps.{places, ended_else, ran, unended_same, future_is}

@@ -1,6 +1,6 @@
 -- The seats after a task has ended, and who goes on.
-use Rattle.std.proofs.Common.{◌≡◌, ◌↔◌, ℕ, zero, suc, ◌+◌, ◌-◌, ◌<◌, ◌≤◌, List, [], ◌∷◌, ◌++◌, length, ◌⊎◌, inl, inr, refl, sym, ap, ◌∙◌, subst, arith, length-append}
-use Rattle.std.specs.Prelude.{Option, Some, None, IsSome, option_and_then, option_to_list, slice_get, slice_set}
+use Rattle.std.proofs.Common.{◌≡◌, ℕ, zero, suc, ◌+◌, ◌-◌, ◌<◌, List, [], ◌∷◌, ◌++◌, length, ◌⊎◌, inl, inr, refl, sym, ap, ◌∙◌, subst, arith, length-append}
+use Rattle.std.specs.Prelude.{Option, Some, None, option_and_then, option_to_list, slice_get, slice_set}
 use Rattle.std.proofs.lemmas.List.{append-nil}
 use Rattle.fut_base.specs.declared.record.Value.{Value}
 use Rattle.fut_base.specs.declared.event.Event.{Event}
@@ -8,7 +8,7 @@ use Rattle.fut_base.specs.declared.event.Action.TheVariants.{Ends}
 use Rattle.fut_base.specs.Dag.{Among, block_after}
 use Rattle.fut_base.specs.Sound.{value_by}
 use Rattle.fut_syntax.specs.Trees as tree
-use Rattle.task_machine.specs.Machine.{Machine, Running, opening, acted, child_of, ended_with, AllHaveEnded, IsStep, IsAllowed, Leads}
+use Rattle.task_machine.specs.Machine.{Machine, Running, opening, acted, child_of, ended_with, IsStep, IsAllowed, Leads}
 use Rattle.task_machine.proofs.Making.{acting_task, others_stay}
 use Rattle.task_machine.proofs.Places.{get_below}
 use Rattle.strand_laws.proofs.Places.{same_or_not, among_or, among_left, among_right}
@@ -16,10 +16,10 @@ use Rattle.run_replay.proofs.Lining.{set_length, get_set_here}
 use Rattle.fut_engine.specs.declared.seat.Seat.{Seat}
 use Rattle.fut_engine.specs.Seats.{value_at, parent_at, went_for, waits_by, waits_for, while_any, while_none, waiters_of, put_in, told, joined, left_to_join, Tells, TellsParent, SettlesEnd}
 use Rattle.fut_engine.specs.Turns.{Waits, IsWoken}
-use Rattle.fut_engine.specs.Wholes.{IsOnce, unended, Wants, sitter, IsSeat, AreSeated}
+use Rattle.fut_engine.specs.Wholes.{unended, sitter, IsSeat, AreSeated}
 use Rattle.fut_engine.proofs.Lists.{some_same, set_else}
 use Rattle.fut_engine.proofs.Steps.{places, ended_else, ended_own, ran, unended_same, unended_less, all_ended, none_unended, sync_needs, sync_may, get_needs, get_may}
-use Rattle.fut_engine.proofs.Seating.{waits_in, parent_in, value_in, waiting_in, free_by, free_sits, free_went, seat_of, task_of, values_are, Shift, SameWent, Freed, same_went, stays, ends}
+use Rattle.fut_engine.proofs.Seating.{waits_in, parent_in, waiting_in, free_by, free_sits, free_went, seat_of, task_of, values_are, Shift, Freed, same_went, stays, ends}
 use Rattle.fut_engine.proofs.Changing.{Changed, changed, changed_parents, changed_frees}
 
 -- who waits for children, as their count falls by one

@@ -1,6 +1,6 @@
 -- A run goes on alone, or stops.
 use Rattle.std.proofs.Common.{◌≡◌, ℕ, ◌+◌, ◌<◌, ◌≤◌, Bool, true, false, List, [], ◌∷◌, ◌++◌, length, refl, sym, ap, ◌∙◌, subst, arith}
-use Rattle.std.specs.Prelude.{Option, Some, reverse, ℤ}
+use Rattle.std.specs.Prelude.{reverse, ℤ}
 use Rattle.std.proofs.lemmas.List.{reverse-append, append_assoc, append-nil}
 use Rattle.fut_base.specs.declared.limits.TheConstants.{MOST_CREATES}
 use Rattle.fut_base.specs.declared.record.Limits.{Limits}
@@ -16,7 +16,7 @@ use Rattle.run_replay.specs.Next.{IsMade}
 use Rattle.run_replay.specs.Serials.{Stops}
 use Rattle.run_replay.proofs.Acting.{creates_further, longer}
 use Rattle.run_replay.proofs.Serially.{not_whole}
-use Rattle.fut_engine.specs.Going.{GoesFirstPast, GoesFirst, Goes}
+use Rattle.fut_engine.specs.Going.{GoesFirst, Goes}
 use Rattle.fut_engine.specs.Runs.{IsRun}
 use Rattle.fut_engine.proofs.Running.{ends_of}
 

@@ -1,5 +1,5 @@
 -- The seats after a task has gone to wait.
-use Rattle.std.proofs.Common.{◌≡◌, ◌↔◌, ℕ, zero, suc, ◌+◌, ◌<◌, ◌≤◌, List, [], ◌∷◌, ◌++◌, length, ◌⊎◌, inl, inr, refl, sym, ap, ◌∙◌, subst, arith}
+use Rattle.std.proofs.Common.{◌≡◌, ◌↔◌, ℕ, zero, suc, ◌<◌, List, [], ◌∷◌, ◌++◌, length, ◌⊎◌, inl, inr, refl, sym, ap, ◌∙◌, subst, arith}
 use Rattle.std.specs.Prelude.{Option, Some, None, slice_get, slice_set}
 use Rattle.fut_base.specs.declared.record.Value.{Value}
 use Rattle.fut_base.specs.declared.event.Event.{Event}
@@ -12,10 +12,10 @@ use Rattle.run_replay.proofs.Lining.{set_length, get_set_here}
 use Rattle.run_replay.specs.Next.{IsWaiting}
 use Rattle.fut_engine.specs.declared.seat.Seat.{Seat}
 use Rattle.fut_engine.specs.Seats.{value_at, parent_at, went_for, waits_by, waits_for, while_any, while_none, sits, awaited_by, gone_for, Sets, Parks, MayPark}
-use Rattle.fut_engine.specs.Wholes.{IsOnce, unended, Wants, sitter, while_any_sits, IsSeat, AreSeated}
+use Rattle.fut_engine.specs.Wholes.{IsOnce, Wants, sitter, while_any_sits, IsSeat, AreSeated}
 use Rattle.fut_engine.proofs.Lists.{some_same, set_else, once_snoc}
 use Rattle.fut_engine.proofs.Steps.{all_ended, sync_may, get_may, future_is, wants_of}
-use Rattle.fut_engine.proofs.Seating.{waits_in, parent_in, value_in, waiting_in, free_by, free_sits, free_went, seat_of, task_of, values_are, SameWent}
+use Rattle.fut_engine.proofs.Seating.{waits_in, parent_in, value_in, waiting_in, free_by, free_sits, free_went, seat_of, values_are, SameWent}
 
 zero_or_more : (n : ℕ) → (n ≡ 0) ⊎ (0 < n)
 zero_or_more zero = inl refl

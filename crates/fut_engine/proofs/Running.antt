@@ -1,5 +1,5 @@
 -- The end of a run.
-use Rattle.std.proofs.Common.{◌≡◌, List, ◌≤◌}
+use Rattle.std.proofs.Common.{List}
 use Rattle.std.specs.Prelude.{ℤ}
 use Rattle.fut_base.specs.declared.event.Event.{Event}
 use Rattle.fut_base.specs.declared.record.Finish.{Finish}

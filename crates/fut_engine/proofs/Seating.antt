@@ -1,20 +1,16 @@
 -- The seats after a step, and after a task has gone to wait.
-use Rattle.std.proofs.Common.{◌≡◌, ◌↔◌, ℕ, zero, suc, ◌+◌, ◌-◌, ◌<◌, ◌≤◌, List, [], ◌∷◌, ◌++◌, length, ◌⊎◌, inl, inr, refl, sym, ap, ◌∙◌, subst, arith, length-append}
-use Rattle.std.specs.Prelude.{Option, Some, None, option_and_then, slice_get, slice_set}
+use Rattle.std.proofs.Common.{◌≡◌, ◌↔◌, ℕ, zero, suc, ◌<◌, ◌≤◌, List, [], length, inl, inr, refl, sym, ap, ◌∙◌, subst, arith}
+use Rattle.std.specs.Prelude.{Option, Some, None, option_and_then, slice_get}
 use Rattle.fut_base.specs.declared.record.Value.{Value}
-use Rattle.fut_base.specs.declared.event.Event.{Event}
 use Rattle.fut_base.specs.Dag.{Among}
 use Rattle.fut_syntax.specs.Trees as tree
-use Rattle.task_machine.specs.Machine.{Machine, Running, opening, acted, child_of, ended_with, IsStep, IsRunning, Leads}
-use Rattle.task_machine.proofs.Making.{acting_task, others_stay}
+use Rattle.task_machine.specs.Machine.{Machine, Running, ended_with}
 use Rattle.task_machine.proofs.Places.{get_below}
 use Rattle.strand_laws.proofs.Places.{same_or_not}
-use Rattle.run_replay.proofs.Lining.{set_length, get_set_here}
 use Rattle.fut_engine.specs.declared.seat.Seat.{Seat}
-use Rattle.fut_engine.specs.Seats.{value_at, parent_at, went_for, waits_by, waits_for, while_any, while_none, new_seat, put_in}
-use Rattle.fut_engine.specs.Wholes.{IsOnce, unended, Wants, sitter, while_any_sits, IsSeat, AreSeated}
-use Rattle.fut_engine.proofs.Lists.{some_same, set_else, append_low, append_high, get_none, get_some, low_or_high}
-use Rattle.fut_engine.proofs.Steps.{places, ended_else, ran, unended_same, future_is}
+use Rattle.fut_engine.specs.Seats.{value_at, parent_at, went_for, waits_by, waits_for, while_none, new_seat, put_in}
+use Rattle.fut_engine.specs.Wholes.{IsOnce, unended, sitter, IsSeat, AreSeated}
+use Rattle.fut_engine.proofs.Lists.{get_none, get_some, low_or_high}
 
 -- ---- reading a seat
 

@@ -1,12 +1,11 @@
 -- The seats after each action that ends no task.
-use Rattle.std.proofs.Common.{◌≡◌, ℕ, zero, suc, ◌+◌, ◌<◌, ◌≤◌, true, false, List, [], ◌∷◌, ◌++◌, length, ◌⊎◌, inl, inr, refl, sym, ap, ◌∙◌, subst, arith, length-append}
+use Rattle.std.proofs.Common.{◌≡◌, ℕ, zero, suc, ◌+◌, ◌<◌, List, [], ◌∷◌, ◌++◌, length, inl, inr, refl, sym, ap, ◌∙◌, subst, arith, length-append}
 use Rattle.std.specs.Prelude.{Option, Some, None, IsSome, is_some, option_and_then, slice_get, slice_set}
 use Rattle.std.proofs.lemmas.Bool.{false≢true}
 use Rattle.std.proofs.lemmas.List.{append-nil}
 use Rattle.fut_base.specs.declared.record.Value.{Value}
 use Rattle.fut_base.specs.declared.event.Event.{Event}
-use Rattle.fut_base.specs.declared.event.Action.{Action}
-use Rattle.fut_base.specs.declared.event.Action.TheVariants.{Reads, Writes, Spawns, Creates, Syncs, Gets, Ends}
+use Rattle.fut_base.specs.declared.event.Action.TheVariants.{Spawns, Creates, Syncs}
 use Rattle.fut_base.specs.Dag.{Among, block_after}
 use Rattle.fut_base.specs.Sound.{value_by}
 use Rattle.fut_syntax.specs.Trees as tree
@@ -16,12 +15,12 @@ use Rattle.task_machine.proofs.Places.{get_below}
 use Rattle.strand_laws.proofs.Places.{same_or_not, among_or, among_left, among_right}
 use Rattle.run_replay.proofs.Lining.{set_length}
 use Rattle.fut_engine.specs.declared.seat.Seat.{Seat}
-use Rattle.fut_engine.specs.Seats.{parent_at, went_for, waits_for, new_seat, freed, begun, Sets, Settles}
+use Rattle.fut_engine.specs.Seats.{parent_at, went_for, waits_for, new_seat, freed, begun}
 use Rattle.fut_engine.specs.Wholes.{IsOnce, still, unended, IsSeat, AreSeated}
 use Rattle.fut_engine.proofs.Lists.{some_same, get_none, once_snoc}
 use Rattle.fut_engine.proofs.Steps.{ended_else, ended_own, ran, unended_same, unended_more, none_unended}
 use Rattle.fut_engine.proofs.Seating.{waits_in, parent_in, Shift, newborn}
-use Rattle.fut_engine.proofs.Changing.{Changed, changed, changed_parents, Acts, shift, none_for_new, acts_on}
+use Rattle.fut_engine.proofs.Changing.{changed, changed_parents, Acts, shift, none_for_new, acts_on}
 
 all_among : (m : Machine) (cs : List ℕ) (c : ℕ) → AllHaveEnded m cs → Among c cs → IsSome (ended_with m c)
 all_among m [] c all i = absurd i

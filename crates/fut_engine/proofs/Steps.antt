@@ -1,6 +1,6 @@
 -- What a step changes of the tasks.
-use Rattle.std.proofs.Common.{◌≡◌, ℕ, zero, suc, ◌+◌, ◌<◌, List, [], ◌∷◌, ◌++◌, length, ◌⊎◌, inl, inr, refl, sym, ap, ◌∙◌, subst, arith}
-use Rattle.std.specs.Prelude.{Option, Some, None, IsSome, is_some, option_and_then, slice_get}
+use Rattle.std.proofs.Common.{◌≡◌, ℕ, zero, suc, ◌+◌, List, [], ◌∷◌, ◌++◌, ◌⊎◌, inl, inr, refl, sym, ap, ◌∙◌, subst, arith}
+use Rattle.std.specs.Prelude.{Option, Some, None, IsSome, option_and_then, slice_get}
 use Rattle.std.proofs.lemmas.Bool.{false≢true}
 use Rattle.fut_base.specs.declared.record.Value.{Value}
 use Rattle.fut_base.specs.declared.event.Event.{Event}
@@ -11,7 +11,7 @@ use Rattle.fut_base.specs.Sound.{value_by}
 use Rattle.fut_syntax.specs.Trees as tree
 use Rattle.task_machine.specs.State.{TaskState, Wish, ToSync, ToGet, wish_of, Answers}
 use Rattle.task_machine.specs.Runs.{StandsAt}
-use Rattle.task_machine.specs.Machine.{Machine, Running, opening, begins, acted, after, child_of, ended_with, AllHaveEnded, Permits, IsStep, IsAllowed, IsRunning, Leads}
+use Rattle.task_machine.specs.Machine.{Machine, Running, opening, begins, acted, after, child_of, ended_with, AllHaveEnded, Permits, IsStep, IsAllowed, Leads}
 use Rattle.task_machine.proofs.Making.{acting_task, others_stay}
 use Rattle.task_machine.proofs.Places.{Behind, get_set_append}
 use Rattle.task_machine.proofs.Stepping.{stands_at_one}

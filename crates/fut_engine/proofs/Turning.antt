@@ -1,5 +1,5 @@
 -- What a turn does to the value behind the lock.
-use Rattle.std.proofs.Common.{◌≡◌, ℕ, zero, suc, ◌+◌, ◌-◌, ◌^◌, ◌<◌, ◌≤◌, true, false, List, [], ◌∷◌, ◌++◌, length, ◌⊎◌, inl, inr, refl, sym, ap, ◌∙◌, subst, arith, length-append}
+use Rattle.std.proofs.Common.{◌≡◌, ℕ, zero, suc, ◌+◌, ◌<◌, ◌≤◌, List, [], ◌∷◌, ◌++◌, length, inl, inr, refl, sym, ap, ◌∙◌, subst, arith, length-append}
 use Rattle.std.specs.Prelude.{Option, Some, None, slice_get}
 use Rattle.fut_base.specs.declared.limits.TheConstants.{MOST_ENTRIES}
 use Rattle.fut_base.specs.declared.record.Value.{Value}
@@ -11,21 +11,20 @@ use Rattle.fut_base.specs.Dag.{Among, block_after}
 use Rattle.fut_base.specs.Sound.{value_by}
 use Rattle.fut_syntax.specs.Trees as tree
 use Rattle.task_machine.specs.Texts.{main_of}
-use Rattle.task_machine.specs.Machine.{Machine, Running, opening, begins, acted, child_of, ended_with, IsStep, IsRunning, Leads, create_count}
-use Rattle.task_machine.proofs.Places.{get_below}
+use Rattle.task_machine.specs.Machine.{Machine, Running, opening, begins, child_of, ended_with, IsStep, IsRunning, Leads, create_count}
 use Rattle.task_code.specs.Flat.{Compiled}
 use Rattle.run_replay.specs.Replays.{ReplayNow, IsReplayOf}
 use Rattle.run_replay.specs.Next.{IsMade, IsWaiting}
 use Rattle.run_replay.proofs.Acting.{longer}
 use Rattle.fut_engine.specs.declared.seat.Seat.{Seat}
-use Rattle.fut_engine.specs.Seats.{value_at, parent_at, went_for, waits_for, Settles, CanTell, CanSettle, MaySettle, MayPark, Parks}
+use Rattle.fut_engine.specs.Seats.{went_for, waits_for, Settles, CanTell, CanSettle, MaySettle, MayPark, Parks}
 use Rattle.fut_engine.specs.declared.made.Made.{Made}
 use Rattle.fut_engine.specs.Going.{AlwaysGoes}
 use Rattle.fut_engine.specs.Turns.{WholeNow, CanTurn, IsReady, HasGone, HasParked, AlwaysTurns, KeepsTurning}
 use Rattle.fut_engine.specs.Wholes.{still, unended, IsSeat, AreSeated, Holds, AlwaysHolds, IsNamed, IsKept}
 use Rattle.fut_engine.proofs.Lists.{some_same}
 use Rattle.fut_engine.proofs.Steps.{places, ran, future_is}
-use Rattle.fut_engine.proofs.Seating.{waits_in, value_in, seat_of, task_of, values_are}
+use Rattle.fut_engine.proofs.Seating.{waits_in, seat_of, task_of}
 use Rattle.fut_engine.proofs.Settling.{plain, synced, created, spawned}
 use Rattle.fut_engine.proofs.Ending.{ended, no_one}
 use Rattle.fut_engine.proofs.Parking.{may_park, parked}

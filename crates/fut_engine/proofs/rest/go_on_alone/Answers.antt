@@ -1,4 +1,4 @@
-use Rattle.std.proofs.Common.{◌≡◌, subst, sym, arith, length}
+use Rattle.std.proofs.Common.{◌≡◌, subst, sym, arith}
 use Rattle.fut_base.specs.Events.{events_of}
 use Rattle.fut_base.specs.declared.record.Ran.{Ran}
 use Rattle.fut_syntax.specs.Trees as tree
