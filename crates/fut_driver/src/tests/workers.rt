@@ -27,6 +27,10 @@ const CROSSED: &str =
 const KIDS: &str =
     "cells a[300];\ntask kid(i: int) int { a[i] = i; return 0; }\ntask main() int { var i: int; while i < 300 { spawn kid(i); i = i + 1; } sync; return 0; }\n";
 
+/// Thousands of children, each with a cell of its own.
+const THOUSANDS: &str =
+    "cells a[5000];\ntask kid(i: int) int { a[i] = i; return 0; }\ntask main() int { var i: int; while i < 5000 { spawn kid(i); i = i + 1; } sync; return 0; }\n";
+
 /// A grid of futures, of which one forgets to get the one above it.
 const FORGOTTEN: &str =
     "cells a[64];\ntask corner() int { a[0] = 1; return 0; }\ntask top(j: int, left: fut int) int {\n  var g: int = get left;\n  var q: int = a[j - 1];\n  a[j] = q + 1;\n  return 0;\n}\ntask side(i: int, up: fut int) int {\n  var g: int = get up;\n  var p: int = a[(i - 1) * 8];\n  a[i * 8] = p + 1;\n  return 0;\n}\ntask inner(i: int, j: int, up: fut int, left: fut int) int {\n  var g: int; if ((i * 8) + j) != 36 { g = get up; }\n  g = get left;\n  var p: int = a[((i - 1) * 8) + j];\n  var q: int = a[(i * 8) + (j - 1)];\n  a[(i * 8) + j] = (p + q) + 1;\n  return 0;\n}\ntask main() int {\n  var h: fut int = create corner();\n  var row: fut int[8] = h;\n  var up: fut int = h;\n  var i: int = 1;\n  var j: int = 1;\n  while j < 8 { h = create top(j, h); row[j] = h; j = j + 1; }\n  while i < 8 {\n    up = row[0];\n    h = create side(i, up);\n    row[0] = h;\n    j = 1;\n    while j < 8 {\n      up = row[j];\n      h = create inner(i, j, up, h);\n      row[j] = h;\n      j = j + 1;\n    }\n    i = i + 1;\n  }\n  var x: int = get h;\n  return x;\n}\n";
@@ -87,7 +91,11 @@ fn runs_on_workers_are_bounded(rt: HostRuntime) -> Result<(), Fail> {
 /// What every run of a text gives.
 #[test]
 fn brief_texts_of_runs_on_workers(rt: HostRuntime) -> Result<(), Fail> {
-    let cases: [(&str, &str); 2] = [
+    let cases: [(&str, &str); 3] = [
+        (
+            THOUSANDS,
+            "tasks 5001\nfutures 0\nevents 15002\nraces 0\nfinish whole\n",
+        ),
         (
             CROSSED,
             "tasks 5\nfutures 4\nevents 23\nraces 0\nfinish whole\n",
@@ -98,7 +106,7 @@ fn brief_texts_of_runs_on_workers(rt: HostRuntime) -> Result<(), Fail> {
         ),
     ];
     for (text, due) in cases {
-        for workers in ["1", "3", "8"] {
+        for workers in ["1", "3", "8", "64"] {
             let words = ["run", "--workers", workers, "--brief"];
             let run = ask(&rt, &words, text.as_bytes())?;
             assert_eq!(rt; run.status, Status::Clean);
