@@ -22,7 +22,11 @@ use std::sync::Wait;
 use std::thread::Threads;
 
 /// Does what the process's words ask for, over this source and this sink. Which words those are the outside decides.
-fn answer<R: Env + AllocGlobal + Threads + Wait + Sync, S: Source, K: Sink>(rt: &R, source: &mut S, out: &mut K) -> ExitCode
+fn answer<R: Env + AllocGlobal + Threads + Wait + Sync, S: Source, K: Sink>(
+    rt: &R,
+    source: &mut S,
+    out: &mut K,
+) -> ExitCode
     ensures { (line : Line) × EndsWith line
         (λ words. asked_of S.Source true words source.old source.new)
         (told_of K.Sink out.old out.new)

@@ -8,4 +8,3 @@ pub mod laws;
 mod same;
 #[cfg(test)]
 mod tests;
-
