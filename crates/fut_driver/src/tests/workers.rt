@@ -141,6 +141,7 @@ fn races_of_runs_on_workers(rt: HostRuntime) -> Result<(), Fail> {
             let run = ask(&rt, &words, text.as_bytes())?;
             assert_eq!(rt; run.status, Status::Raced);
             assert_eq!(rt; run.entries, entries);
+            assert!(rt; run.text.len() < 100_000);
             let record = read_run(rt.alloc(), run.text.as_slice())?;
             assert_eq!(rt; record.races.len(), 1);
             for race in record.races.as_slice() {
