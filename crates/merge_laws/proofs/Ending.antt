@@ -65,8 +65,8 @@ module _ (P : tree.Program) (n : ℕ) (place : ℕ → ℕ) (book : List Drawn) 
   pub whole_there : ((t : ℕ) → t < next_task (reverse (events_in book)) → IsSome (value_of (reverse (events_in book)) t)) → EachEnded m.tasks
   whole_there f =
       each_ended m.tasks (λ t r got. (
-          let below : t < next_task (reverse (events_in book)) = (let l = get_below m.tasks t r got in let e = mirrors.tasks in let o = ap next_task kept in omega (arith, l, e, o)) in
-          subst (λ (v : Option Value). IsSome v) (ap (λ (l : List Event). value_of l t) kept ∙ (mirrors.each t r got).value) (f t below)))
+      let below : t < next_task (reverse (events_in book)) = (let l = get_below m.tasks t r got in let e = mirrors.tasks in let o = ap next_task kept in omega (arith, l, e, o)) in
+      subst (λ (v : Option Value). IsSome v) (ap (λ (l : List Event). value_of l t) kept ∙ (mirrors.each t r got).value) (f t below)))
 
   pub ended_there : EachEnded m.tasks → (t : ℕ) → t < next_task (reverse (events_in book)) → IsSome (value_of (reverse (events_in book)) t)
   ended_there e t lt =

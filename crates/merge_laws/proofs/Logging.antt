@@ -220,15 +220,15 @@ log_has_traces n log t of =
     record {
       rising = part_rises (λ x. x.1.task == t) log;
       each = λ z. (
-          (λ a. (
-              let d = part_drew (λ x. x.1.task == t) log z a in
-              let there : Among (z.0, d.0.1) (all_of (owns_from 0 n log)) = drew_owns 0 n log z.0 d.0 d.1 (omega arith) (from_zero d.0.0 n (of d.0 (drew_among log z.0 d.0 d.1))) in
-              (subst (λ (e : Event). Among (z.0, e) (all_of (owns_from 0 n log))) d.2 there, ap (λ (e : Event). e.task) (sym d.2) ∙ eqb-true d.0.1.task t d.3))),
-          (λ a. (
-              let d = owns_drew 0 n log z a.0 in
-              subst (λ (e : Event). Among (z.0, e) (trace_of t log)) d.2
-              (drew_part (λ x. x.1.task == t) log z.0 d.0 d.1 (eq-eqb d.0.1.task t (ap (λ (e : Event). e.task) d.2 ∙ a.1))))),
-        );
+        (λ a. (
+            let d = part_drew (λ x. x.1.task == t) log z a in
+            let there : Among (z.0, d.0.1) (all_of (owns_from 0 n log)) = drew_owns 0 n log z.0 d.0 d.1 (omega arith) (from_zero d.0.0 n (of d.0 (drew_among log z.0 d.0 d.1))) in
+            (subst (λ (e : Event). Among (z.0, e) (all_of (owns_from 0 n log))) d.2 there, ap (λ (e : Event). e.task) (sym d.2) ∙ eqb-true d.0.1.task t d.3))),
+        (λ a. (
+            let d = owns_drew 0 n log z a.0 in
+            subst (λ (e : Event). Among (z.0, e) (trace_of t log)) d.2
+            (drew_part (λ x. x.1.task == t) log z.0 d.0 d.1 (eq-eqb d.0.1.task t (ap (λ (e : Event). e.task) d.2 ∙ a.1))))),
+      );
     }
 
 module _ (P : tree.Program) (n : ℕ) (place : ℕ → ℕ) (log : List Draw) (traces : List (ℕ × List Drawn)) (x : IsLoggedRun P n place log traces) where

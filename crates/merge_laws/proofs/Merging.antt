@@ -180,9 +180,9 @@ standing [] f = tt
 standing (e ∷ past) f = (
   standing past (λ k d s. subst (λ (l : List Event). IsStanding l d) (below_skip k e past (let l = stood_lt past k d s in omega (arith, l))) (f k d (inr s))),
   stands_kept past e
-  (subst (λ (l : List Event). IsStanding l e)
-  (below_skip (length past) e past (omega arith) ∙ ap events_in (below_all (length past) past (omega arith)) ∙ picked_events by_structure past)
-  (f (length past) e (inl (refl, refl)))),
+      (subst (λ (l : List Event). IsStanding l e)
+      (below_skip (length past) e past (omega arith) ∙ ap events_in (below_all (length past) past (omega arith)) ∙ picked_events by_structure past)
+      (f (length past) e (inl (refl, refl)))),
 )
 
 none_here : {X : Type 0} (p : X → Bool) (xs : List X) → ((x : X) → Among x xs → p x ≡ true → ⊥) → filter p xs ≡ []
@@ -252,14 +252,14 @@ module _ (P : tree.Program) (n : ℕ) (place : ℕ → ℕ) (book : List Drawn) 
       go None e =
           subst ReadsAreRight
           (sym (none_here (in_shard place i) (reverse h) (λ d a test. (
-              let k = stood_of_among (reverse h) d a in
-              elim (among_split (k.0, d) book (all_of shards) (stood_drawn owns h merge k.0 d k.1)) [
-                | inl l ↦ not_structural place i d.action (tested_in place i d.action test) (book_structural (k.0, d) l)
-                | inr r ↦ (
-                    let q = shard_access (k.0, d) r in
-                    let same : q.0 ≡ i = one_place place q.0 i d.action q.4 (tested_in place i d.action test) in
-                    none_some q.1 (sym e ∙ ap (slice_get shards) (sym same) ∙ q.2))
-              ]))))
+          let k = stood_of_among (reverse h) d a in
+          elim (among_split (k.0, d) book (all_of shards) (stood_drawn owns h merge k.0 d k.1)) [
+            | inl l ↦ not_structural place i d.action (tested_in place i d.action test) (book_structural (k.0, d) l)
+            | inr r ↦ (
+                let q = shard_access (k.0, d) r in
+                let same : q.0 ≡ i = one_place place q.0 i d.action q.4 (tested_in place i d.action test) in
+                none_some q.1 (sym e ∙ ap (slice_get shards) (sym same) ∙ q.2))
+          ]))))
           tt
       go (Some own) e =
           subst ReadsAreRight (own_events owns h merge own (in_shard place i) (shard_is i own e)) (run.shared.reads own (get_among own shards i e))
@@ -306,12 +306,11 @@ module _ (P : tree.Program) (n : ℕ) (place : ℕ → ℕ) (book : List Drawn) 
           let tr = run.tasks (k.0, x) (stood_drawn owns h merge k.0 x k.1) in
           let own : Among (t, tr.0) traces = subst (λ i. Among (i, tr.0) traces) task tr.1 in
           let trace = run.traced (t, tr.0) own in
-          let one = starts_one P (kept_of (reverse h)) structure_sound t trace.which which trace.args args (book_starts t trace.which trace.args trace.starts) (starts_kept P (reverse h) t which args starts) in
-          (
+          let one = starts_one P (kept_of (reverse h)) structure_sound t trace.which which trace.args args (book_starts t trace.which trace.args trace.starts) (starts_kept P (reverse h) t which args starts) in (
             trace.state,
             subst (λ (l : List Event). IsStateAfter P which args l trace.state) (trace_acts (t, tr.0) own)
-            (subst (λ w. IsStateAfter P w args (events_in tr.0) trace.state) one.0
-            (subst (λ (vs : List Value). IsStateAfter P trace.which vs (events_in tr.0) trace.state) one.1 trace.leads)),
+                (subst (λ w. IsStateAfter P w args (events_in tr.0) trace.state) one.0
+                (subst (λ (vs : List Value). IsStateAfter P trace.which vs (events_in tr.0) trace.state) one.1 trace.leads)),
           )
 
   pub are_standing : AreStanding (reverse h)

@@ -69,9 +69,10 @@ front k (x ∷ xs) r = elim (cases_lt x.0 k) [
       let f = front k xs r.1 in
       (f.0, ap (λ t. cond t (x ∷ filter (λ (y : Drawn). nat_lt y.0 k) xs) (filter (λ (y : Drawn). nat_lt y.0 k) xs) ++ f.0) (lt-ltb x.0 k lt) ∙ ap (λ l. x ∷ l) f.1))
   | inr ge ↦ (
-      x ∷ xs,
-      ap (λ (l : List Drawn). l ++ x ∷ xs)
-      (none_below k (x ∷ xs) (λ y a. elim a [ inl s ↦ (let e : x.0 ≡ y.0 = ap (λ (z : Drawn). z.0) s in omega (arith, e, ge)) | inr b ↦ (let l : x.0 < y.0 = r.0 y b in omega (arith, l, ge)) ])))
+    x ∷ xs,
+    ap (λ (l : List Drawn). l ++ x ∷ xs)
+        (none_below k (x ∷ xs) (λ y a. elim a [ inl s ↦ (let e : x.0 ≡ y.0 = ap (λ (z : Drawn). z.0) s in omega (arith, e, ge)) | inr b ↦ (let l : x.0 < y.0 = r.0 y b in omega (arith, l, ge)) ])),
+  )
 ]
 
 events_append : (xs ys : List Drawn) → events_in (xs ++ ys) ≡ events_in xs ++ events_in ys
@@ -109,8 +110,8 @@ traced_by_more P book more task trace rising sound own other x =
           subst (λ (l : List Event). IsStanding l y.1) (sym (past_append k book more))
           (stands_on (past_below k more) (past_below k book) y.1 whole
           (λ d b e. (
-              let f = map_among (λ (z : Drawn). z.1) d (filter (λ (z : Drawn). nat_lt z.0 k) more) (reverse_among d (events_in (filter (λ (z : Drawn). nat_lt z.0 k) more)) b) in
-              other f.0 (filter_among (λ (z : Drawn). nat_lt z.0 k) f.0 more f.1).0 (ap (λ (z : Event). z.task) f.2 ∙ e ∙ own y a)))
+          let f = map_among (λ (z : Drawn). z.1) d (filter (λ (z : Drawn). nat_lt z.0 k) more) (reverse_among d (events_in (filter (λ (z : Drawn). nat_lt z.0 k) more)) b) in
+          other f.0 (filter_among (λ (z : Drawn). nat_lt z.0 k) f.0 more f.1).0 (ap (λ (z : Event). z.task) f.2 ∙ e ∙ own y a)))
           (x.stands y a)));
     }
 

@@ -3,7 +3,7 @@
 use Rattle.std.proofs.Common.{◌≡◌, ℕ, zero, suc, ◌+◌, ◌<◌, Bool, true, false, cond, List, [], ◌∷◌, ◌++◌, length, inl, inr, refl, sym, ap, ◌∙◌, subst, arith, true≢false}
 use Rattle.std.proofs.lemmas.Option.{same_Some}
 use Rattle.std.proofs.lemmas.List.{reverse-append}
-use Rattle.std.proofs.lemmas.Bool.{cases_lt, cases_eq as same_or_not}
+use Rattle.std.proofs.lemmas.Bool.{cases_Bool, cases_lt, cases_eq as same_or_not}
 use Rattle.std.specs.Prelude.{Option, Some, None, IsSome, option_map, option_and_then, reverse, slice_get}
 use Rattle.fut_base.specs.declared.record.Value.{Value}
 use Rattle.fut_base.specs.declared.event.Event.{Event}
@@ -22,7 +22,7 @@ use Rattle.access_shards.specs.Histories.{IsStanding, AreStanding}
 use Rattle.access_shards.proofs.Histories.{same_current, same_last}
 use Rattle.run_laws.specs.Laws.{Mirrors, IsMirrored, HasCells}
 use Rattle.run_laws.proofs.Pasts.{Came, kept_of}
-use Rattle.run_laws.proofs.Mirrored.{kept_on, tested, came_mirrors}
+use Rattle.run_laws.proofs.Mirrored.{kept_on, came_mirrors}
 use Rattle.run_laws.proofs.Stuck.{AccessesBelow, wish_below}
 use Rattle.merge_laws.specs.Parts.{StartsAs, IsRight, ReadsAreRight}
 use Rattle.merge_laws.proofs.Machines.{acts_of, acts_on, acts_off, follows_split, follows_one, starts_more, came_states, came_cells}
@@ -153,7 +153,7 @@ next_step P some e past m x c =
     let more = x.states e.task r.which state.0 (starts_more P e past e.task r.which state.0 state.1) in
     let stop = stop_of P (acts_of e.task past) e r.which state.0 r.state more.0 state.2 (subst (λ (l : List Event). IsStateAfter P r.which state.0 l more.0) (acts_on e.task e past refl) more.1) in
     step_of P m e r stop.0 k.1 run strand stop.1 stop.2
-    (elim (tested (structural e.action)) [
+    (elim (cases_Bool (structural e.action)) [
       | inl st ↦ (
           let sound : IsSoundPast (e ∷ kept_of past) = subst IsSoundPast (kept_on past e st) x.sound in
           permits (kept_of past) m mirrors e.task r e.action k.1 st sound.1.acts)

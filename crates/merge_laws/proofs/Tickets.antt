@@ -98,9 +98,9 @@ merge_exists n owns share =
     let b = build n owns share n (omega arith) in (
       reverse b.0,
       λ k e. (
-          (λ a. get_of (reverse b.0) k e (subst (λ (l : List Event). Stood l k e) (sym (reverse-reverse b.0)) (b.1.back k e a (share.below (k, e) a)))),
-          (λ g. b.1.to k e (subst (λ (l : List Event). Stood l k e) (reverse-reverse b.0) (stood_of (reverse b.0) k e g))),
-        ),
+        (λ a. get_of (reverse b.0) k e (subst (λ (l : List Event). Stood l k e) (sym (reverse-reverse b.0)) (b.1.back k e a (share.below (k, e) a)))),
+        (λ g. b.1.to k e (subst (λ (l : List Event). Stood l k e) (reverse-reverse b.0) (stood_of (reverse b.0) k e g))),
+      ),
       length-reverse b.0 ∙ b.1.long,
     )
 
