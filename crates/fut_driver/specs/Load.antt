@@ -1,6 +1,6 @@
 -- The program that `load` runs: a grid of futures, of which each gets those above it and to its left, reads their cells and writes its own.
 use Rattle.std.specs.Prelude.{ℕ, ◌*◌, List, [], ◌∷◌, ◌++◌, codes, decimal}
-use Rattle.core.specs.List.{concat}
+use Rattle.std.specs.List.{concat}
 
 -- a cell for each place of the grid
 abbrev pub cells_parts : ℕ → List (List ℕ)

@@ -32,7 +32,9 @@ pub fn load_text(alloc: Global, side: u32) -> Result<Text, NoMemory>
         Piece::Bytes(
             b"task top(j: int, left: fut int) int {\n  var g: int = get left;\n  var q: int = a[j - 1];\n  a[j] = q + 1;\n  return 0;\n}\n",
         ),
-        Piece::Bytes(b"task side(i: int, up: fut int) int {\n  var g: int = get up;\n  var p: int = a[(i - 1) * "),
+        Piece::Bytes(
+            b"task side(i: int, up: fut int) int {\n  var g: int = get up;\n  var p: int = a[(i - 1) * ",
+        ),
         Piece::Number(side),
         Piece::Bytes(b"];\n  a[i * "),
         Piece::Number(side),
@@ -46,7 +48,9 @@ pub fn load_text(alloc: Global, side: u32) -> Result<Text, NoMemory>
         Piece::Bytes(b") + (j - 1)];\n  a[(i * "),
         Piece::Number(side),
         Piece::Bytes(b") + j] = (p + q) + 1;\n  return 0;\n}\n"),
-        Piece::Bytes(b"task main() int {\n  var h: fut int = create corner();\n  var row: fut int["),
+        Piece::Bytes(
+            b"task main() int {\n  var h: fut int = create corner();\n  var row: fut int[",
+        ),
         Piece::Number(side),
         Piece::Bytes(
             b"] = h;\n  var up: fut int = h;\n  var i: int = 1;\n  var j: int = 1;\n  while j < ",

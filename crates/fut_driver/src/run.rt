@@ -132,13 +132,7 @@ pub fn outcome_of_run(
 }
 
 /// The text of a run that is due.
-fn made(
-    alloc: Global,
-    text: &[u8],
-    code: &Code,
-    ran: &Ran,
-    form: Form,
-) -> Result<Vec<u8>, NoMemory>
+fn made(alloc: Global, text: &[u8], code: &Code, ran: &Ran, form: Form) -> Result<Vec<u8>, NoMemory>
     ensures { IfOk result (λ t. t.items ≡ run_due form text.now code.now.arrays (events_of ran.now.history) ran.now.races.items ran.now.finish ran.now.cells.items) }
 {
     let mut made = Gathered::make(alloc);
