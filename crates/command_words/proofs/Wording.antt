@@ -1,6 +1,6 @@
 -- Words that begin with the name of a command.
 use Rattle.std.proofs.Common.{◌≡◌, ℕ, Bool, true, false, List, [], ◌∷◌, inl, inr, refl, sym, ap, ◌∙◌, subst, arith, codes, slice_index}
-use Rattle.std.specs.Prelude.{Option, Some, None, MatchOption}
+use Rattle.std.specs.Prelude.{nat_lt, Option, Some, None, MatchOption}
 use Rattle.command_words.specs.declared.options.Choice.{Choice}
 use Rattle.command_words.specs.declared.options.Choice.TheVariants as choice
 use Rattle.command_words.specs.declared.words.Command.{Command}
@@ -8,7 +8,7 @@ use Rattle.command_words.specs.declared.words.Command.TheVariants as command
 use Rattle.command_words.proofs.Choosing.{one_options}
 use Rattle.command_words.specs.declared.options.Kind.{Kind}
 use Rattle.command_words.specs.declared.options.Kind.TheVariants as kind
-use Rattle.command_words.specs.Asking.{EachMayStand, bound_of, workers_of, side_of, unnamed_workers, IsBound, AreWorkers, IsSide, IsBounded, AreOptions, AreOptionsOfLoad, AreWordsOf, Commands}
+use Rattle.command_words.specs.Asking.{count, is_brief, EachMayStand, bound_of, workers_of, side_of, unnamed_workers, IsBound, AreWorkers, IsSide, IsBounded, AreOptions, AreOptionsOfLoad, AreWordsOf, Commands}
 
 -- two lists that are one begin with one item
 pub same_head : (words : List (List ℕ)) (x y : List ℕ) (xs ys : List (List ℕ)) → words ≡ x ∷ xs → words ≡ y ∷ ys → x ≡ y
@@ -59,6 +59,30 @@ abbrev pub IsLoadWith : List (List ℕ) → Option Command → Type 0
 IsLoadWith rest r = MatchOption r
     ((side events crew : ℕ) → AreOptionsOfLoad rest side events crew → ⊥)
     (λ c. (side : ℕ) × (events : ℕ) × (crew : ℕ) × (c ≡ command.Load side events crew) × AreOptionsOfLoad rest side events crew)
+
+-- options that name a side are no others
+pub no_load : (words : List (List ℕ)) (m : ℕ) (b : Bool) (i : ℕ) (s : Option ℕ) → s ≡ None → AreOptions kind.Load words m b i s → (side events crew : ℕ) → AreOptionsOfLoad words side events crew → ⊥
+no_load words m b i s none o side events crew p =
+    let same = one_options kind.Load words m events b false i crew s (Some side) o p in
+    let both : None ≡ Some side = sym none ∙ same.3 in cc
+
+pub no_run : (k : Kind) (words : List (List ℕ)) (m : ℕ) (b : Bool) (i : ℕ) (s : Option ℕ) (side : ℕ) → s ≡ Some side → AreOptions k words m b i s → (events : ℕ) (brief : Bool) (crew : ℕ) → AreOptions k words events brief crew None → ⊥
+no_run k words m b i s side named o events brief crew p =
+    let same = one_options k words m events b brief i crew s None o p in
+    let both : Some side ≡ None = sym named ∙ same.3 in cc
+
+-- `load` has no `--brief`
+no_briefs : (cs : List Choice) → EachMayStand kind.Load cs → count is_brief cs ≡ 0
+no_briefs [] each = refl
+no_briefs (choice.Events n ∷ cs) each = let none = no_briefs cs each.1 in omega (arith, none)
+no_briefs (choice.Brief ∷ cs) each = absurd (let no : false ≡ true = each.0.0 in cc)
+no_briefs (choice.Workers n ∷ cs) each = let none = no_briefs cs each.1 in omega (arith, none)
+no_briefs (choice.Side n ∷ cs) each = let none = no_briefs cs each.1 in omega (arith, none)
+
+pub load_with : (words : List (List ℕ)) (m : ℕ) (b : Bool) (i : ℕ) (s : Option ℕ) (side : ℕ) → s ≡ Some side → AreOptions kind.Load words m b i s → AreOptionsOfLoad words side m i
+load_with words m b i s side named o =
+    let not_brief : b ≡ false = o.brief_is ∙ ap (nat_lt 0) (no_briefs o.choices o.allowed) in
+    subst (λ x. AreOptions kind.Load words m false i x) named (subst (λ x. AreOptions kind.Load words m x i s) not_brief o)
 
 serial_none : (m : Bool) (words rest : List (List ℕ)) → words ≡ codes "serial" ∷ rest → ((events : ℕ) (brief : Bool) (crew : ℕ) → AreOptions kind.Serial rest events brief crew None → ⊥) → (c : Command) → AreWordsOf m words c → ⊥
 serial_none m words rest e none command.Check w = serial_check (same_head words _ _ _ _ e w)
