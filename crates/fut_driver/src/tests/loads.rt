@@ -64,7 +64,9 @@ fn chosen(all: usize, some: usize) -> u64 {
 fn the_largest_grid(rt: HostRuntime) -> Result<(), Fail> {
     let alloc = rt.alloc();
     let sum = chosen(130, 65).wrapping_sub(65 * 65 + 1).cast_signed();
-    let due = format!(in alloc; "tasks 4097\nfutures 4096\nevents 28418\nraces 0\nfinish whole\nsum {sum}\n")?;
+    let due = format!(in alloc;
+        "tasks 4097\nfutures 4096\nevents 28418\nraces 0\nfinish whole\nsum {sum}\n"
+    )?;
     for workers in ["1", "4"] {
         let answer = ask(&rt, &["load", "64", "--workers", workers], b"")?;
         assert_eq!(rt; answer.status, Status::Clean);
