@@ -1,6 +1,6 @@
 -- Options read one after the other.
 use Rattle.std.proofs.Common.{◌≡◌, ℕ, ◌+◌, ◌≤◌, ◌<◌, ◌^◌, Bool, true, false, List, [], ◌∷◌, ◌++◌, length, refl, sym, ap, ◌∙◌, subst, arith, codes, decimal, map, get_or, Result, Ok, append_assoc}
-use Rattle.std.specs.Prelude.{nat_lt, Option, Some, None, is_some}
+use Rattle.std.specs.Prelude.{nat_lt, Option, Some, is_some}
 use Rattle.std.specs.Str.Parse.{ParsesUnsigned}
 use Rattle.std.proofs.lemmas.Fmt.{parse-decimal, decimal_injective, first_decimal}
 use Rattle.std.proofs.lemmas.List.{append-nil, length-map}
