@@ -1,6 +1,6 @@
 //! The options of a run.
-ghost use Rattle.std.specs.Prelude.{◌≡◌, ◌↔◌, ℕ, Bool, List, [], ◌∷◌, ◌++◌, map, IsTrue, MatchOption, codes, decimal, string_bytes};
-ghost use Rattle.command_words.specs.Asking.{IsFromOneTo, MayStand, spelling, unnamed_workers, AreOptions};
+ghost use Rattle.std.specs.Prelude.{◌≡◌, ◌↔◌, ℕ, Bool, List, [], ◌∷◌, ◌++◌, map, IsTrue, MatchOption, Option, codes, decimal, string_bytes};
+ghost use Rattle.command_words.specs.Asking.{IsFromOneTo, IsInRange, is_option_of, MayStand, spelling, unnamed_workers, AreOptions};
 ghost use Rattle.command_words.specs.Seen.{IsSeen, IsAgain};
 
 use fut_base::limits::{MOST_ENTRIES, MOST_WORKERS};
@@ -12,6 +12,20 @@ const UNNAMED_EVENTS: u32 = 100_000;
 /// The number of workers of a run whose words name none.
 const UNNAMED_WORKERS: u32 = 4;
 
+/// How long a side of the grid of `load` may be.
+pub const MOST_SIDE: u32 = 64;
+
+/// The commands that make runs, each with its own options.
+#[derive(Clone, Copy)]
+pub enum Kind {
+    /// `serial`: `--events`, `--brief`.
+    Serial,
+    /// `run`: the same, and `--workers`.
+    Run,
+    /// `load`: `--events`, `--workers`, and the side of the grid.
+    Load,
+}
+
 /// An option as it was chosen.
 #[derive(Clone, Copy)]
 pub enum Choice {
@@ -21,6 +35,8 @@ pub enum Choice {
     Brief,
     /// `--workers` and a number.
     Workers(u32),
+    /// A number alone: the side of the grid.
+    Side(u32),
 }
 
 /// What some options say together.
@@ -36,6 +52,8 @@ pub struct Seen {
     pub workers: bool,
     /// The number of workers.
     pub crew: u32,
+    /// The side of the grid, where it was among them.
+    pub side: Option<u32>,
 }
 
 impl Seen {
@@ -49,6 +67,7 @@ impl Seen {
             brief: false,
             workers: false,
             crew,
+            side: None,
         }
     }
 
@@ -86,21 +105,29 @@ impl Seen {
                     ..self
                 })
             }
+            Choice::Side(side) => {
+                if self.side.is_some() {
+                    return None;
+                }
+                Some(Seen {
+                    side: Some(side),
+                    ..self
+                })
+            }
         }
     }
 }
 
-/// What the words say, if they are the options of a run: each at most once, in any order. `--workers` is among them where
-/// that is allowed.
-pub fn options(words: &[String], workers: bool) -> Option<Seen>
+/// What the words say, if they are options of such a command: each at most once, in any order.
+pub fn options(words: &[String], kind: Kind) -> Option<Seen>
     ensures { MatchOption result
-        ((events : ℕ) (brief : Bool) (crew : ℕ) → AreOptions workers (map string_bytes words.now) events brief crew → ⊥)
-        (λ seen. AreOptions workers (map string_bytes words.now) seen.bound seen.brief seen.crew) }
+        ((events : ℕ) (brief : Bool) (crew : ℕ) (side : Option ℕ) → AreOptions kind (map string_bytes words.now) events brief crew side → ⊥)
+        (λ seen. AreOptions kind (map string_bytes words.now) seen.bound seen.brief seen.crew seen.side) }
 {
-    let mut seen = Seen::nothing(unnamed(workers));
+    let mut seen = Seen::nothing(unnamed(kind));
     let mut rest = words;
     while !rest.is_empty() {
-        let (choice, more) = first_option(rest, workers)?;
+        let (choice, more) = first_option(rest, kind)?;
         seen = seen.with(choice)?;
         rest = more;
     }
@@ -108,17 +135,55 @@ pub fn options(words: &[String], workers: bool) -> Option<Seen>
 }
 
 /// How many workers a run has whose words name none.
-fn unnamed(workers: bool) -> u32
-    ensures { result ≡ unnamed_workers workers }
+fn unnamed(kind: Kind) -> u32
+    ensures { result ≡ unnamed_workers kind }
 {
-    if workers { UNNAMED_WORKERS } else { 1 }
+    match kind {
+        Kind::Serial => 1,
+        Kind::Run | Kind::Load => UNNAMED_WORKERS,
+    }
 }
 
-/// The option that the words begin with, and the words behind it.
-fn first_option(words: &[String], workers: bool) -> Option<(Choice, &[String])>
+/// Whether such a command has this option.
+fn is_option(kind: Kind, choice: Choice) -> bool
+    ensures { result ≡ is_option_of kind choice }
+{
+    match choice {
+        Choice::Events(_) => true,
+        Choice::Brief => match kind {
+            Kind::Serial | Kind::Run => true,
+            Kind::Load => false,
+        },
+        Choice::Workers(_) => match kind {
+            Kind::Run | Kind::Load => true,
+            Kind::Serial => false,
+        },
+        Choice::Side(_) => match kind {
+            Kind::Load => true,
+            Kind::Serial | Kind::Run => false,
+        },
+    }
+}
+
+/// The option of such a command that the words begin with, and the words behind it.
+fn first_option(words: &[String], kind: Kind) -> Option<(Choice, &[String])>
     ensures { MatchOption result
-        ((c : Choice) (more : List (List ℕ)) → MayStand workers c → map string_bytes words.now ≡ spelling c ++ more → ⊥)
-        (λ p. MayStand workers p.0 × (map string_bytes words.now ≡ spelling p.0 ++ map string_bytes p.1.now)) }
+        ((c : Choice) (more : List (List ℕ)) → MayStand kind c → map string_bytes words.now ≡ spelling c ++ more → ⊥)
+        (λ p. MayStand kind p.0 × (map string_bytes words.now ≡ spelling p.0 ++ map string_bytes p.1.now)) }
+{
+    let (choice, more) = first_choice(words)?;
+    if is_option(kind, choice) {
+        Some((choice, more))
+    } else {
+        None
+    }
+}
+
+/// The option of some command that the words begin with, its number in range, and the words behind it.
+fn first_choice(words: &[String]) -> Option<(Choice, &[String])>
+    ensures { MatchOption result
+        ((c : Choice) (more : List (List ℕ)) → IsInRange c → map string_bytes words.now ≡ spelling c ++ more → ⊥)
+        (λ p. IsInRange p.0 × (map string_bytes words.now ≡ spelling p.0 ++ map string_bytes p.1.now)) }
 {
     if let Some(more) = behind(words, "--brief") {
         return Some((Choice::Brief, more));
@@ -127,13 +192,12 @@ fn first_option(words: &[String], workers: bool) -> Option<(Choice, &[String])>
         let (events, more) = first_number(rest, MOST_ENTRIES)?;
         return Some((Choice::Events(events), more));
     }
-    let rest = behind(words, "--workers")?;
-    let (crew, more) = first_number(rest, MOST_WORKERS)?;
-    if workers {
-        Some((Choice::Workers(crew), more))
-    } else {
-        None
+    if let Some(rest) = behind(words, "--workers") {
+        let (crew, more) = first_number(rest, MOST_WORKERS)?;
+        return Some((Choice::Workers(crew), more));
     }
+    let (side, more) = first_number(words, MOST_SIDE)?;
+    Some((Choice::Side(side), more))
 }
 
 /// The number from one to this one that the words begin with, and the words behind it.

@@ -27,16 +27,16 @@ fn read(alloc: Global, words: &[String]) -> Result<Option<Command>, Error> {
     if name == "replay" {
         return Ok(Some(Command::Replay));
     }
+    if name == "load" {
+        return Ok(load_of(given));
+    }
     Ok(run_of(given))
 }
 
 /// A run with the options that were found.
 fn run_of(given: &ArgMatches<'_>) -> Option<Command> {
     let brief = given.get_flag("brief");
-    let events = given.get_str("events")?;
-    let Ok(events) = events.parse::<u32>() else {
-        return None;
-    };
+    let events = number_of(given, "events")?;
     let workers = workers_of(given)?;
     Some(Command::Run {
         events,
@@ -45,41 +45,78 @@ fn run_of(given: &ArgMatches<'_>) -> Option<Command> {
     })
 }
 
+/// A run of the grid with the options that were found.
+fn load_of(given: &ArgMatches<'_>) -> Option<Command> {
+    let side = number_of(given, "side")?;
+    let events = number_of(given, "events")?;
+    let workers = number_of(given, "workers")?;
+    Some(Command::Load {
+        side,
+        events,
+        workers,
+    })
+}
+
 /// The number of workers of a run that was found: one where it is serial.
 fn workers_of(given: &ArgMatches<'_>) -> Option<u32> {
-    let Some(workers) = given.get_str("workers") else {
-        return Some(1);
-    };
-    match workers.parse::<u32>() {
-        Ok(workers) => Some(workers),
+    if given.contains_id("workers") {
+        number_of(given, "workers")
+    } else {
+        Some(1)
+    }
+}
+
+/// A number that was found.
+fn number_of(given: &ArgMatches<'_>, name: &str) -> Option<u32> {
+    match given.get_str(name)?.parse::<u32>() {
+        Ok(number) => Some(number),
         Err(_) => None,
     }
 }
 
 /// One command with one level of subcommands.
 fn app<'a>(alloc: Global) -> Result<App<'a>, Error> {
-    let serial = with_options(alloc, App::new(alloc, "serial"))?;
-    let run = with_options(alloc, App::new(alloc, "run"))?.arg(workers(alloc))?;
+    let serial = App::new(alloc, "serial")
+        .arg(events(alloc))?
+        .arg(brief(alloc))?;
+    let run = App::new(alloc, "run")
+        .arg(events(alloc))?
+        .arg(brief(alloc))?
+        .arg(workers(alloc))?;
+    let load = App::new(alloc, "load")
+        .arg(side(alloc))?
+        .arg(events(alloc))?
+        .arg(workers(alloc))?;
     let app = App::new(alloc, "forder")
         .no_binary_name(true)
         .subcommand(App::new(alloc, "check"))?
         .subcommand(App::new(alloc, "replay"))?
         .subcommand(serial)?
-        .subcommand(run)?;
+        .subcommand(run)?
+        .subcommand(load)?;
     Ok(app)
 }
 
-/// The options of each run.
-fn with_options<'a>(alloc: Global, app: App<'a>) -> Result<App<'a>, Error> {
-    let events = Arg::new(alloc, "events")
+/// The greatest number of entries of a run.
+fn events<'a>(alloc: Global) -> Arg<'a> {
+    Arg::new(alloc, "events")
         .long("events")
         .action(ArgAction::Set)
-        .default_value("100000");
-    let brief = Arg::new(alloc, "brief")
+        .default_value("100000")
+}
+
+/// That the brief text of a run is due.
+fn brief<'a>(alloc: Global) -> Arg<'a> {
+    Arg::new(alloc, "brief")
         .long("brief")
-        .action(ArgAction::SetTrue);
-    let both = app.arg(events)?.arg(brief)?;
-    Ok(both)
+        .action(ArgAction::SetTrue)
+}
+
+/// The side of the grid, a number alone.
+fn side<'a>(alloc: Global) -> Arg<'a> {
+    Arg::new(alloc, "side")
+        .required(true)
+        .action(ArgAction::Set)
 }
 
 /// The option of a run on workers.

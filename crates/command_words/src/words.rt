@@ -1,9 +1,9 @@
 //! The words of the command line.
-ghost use Rattle.std.specs.Prelude.{◌≡◌, ◌≢◌, ℕ, Bool, [], ◌∷◌, ◌++◌, map, string_bytes, MatchOption, OnOk, OnErr};
-ghost use Rattle.command_words.specs.Asking.{AreOptions, Commands};
+ghost use Rattle.std.specs.Prelude.{◌≡◌, ◌≢◌, ℕ, Bool, true, [], ◌∷◌, ◌++◌, map, string_bytes, MatchOption, None, OnOk, OnErr};
+ghost use Rattle.command_words.specs.Asking.{AreOptions, AreOptionsOfLoad, Commands};
 ghost use Rattle.command_words.specs.declared.words.Command.TheVariants as command;
 
-use crate::options::{behind, options};
+use crate::options::{Kind, behind, options};
 use fut_base::list::NoMemory;
 use std::alloc::Global;
 use std::marker::Model;
@@ -51,7 +51,7 @@ impl Words {
         self.all.as_slice()
     }
 
-    /// What the words ask for, if they have a form that is known: `check`, `replay`, or a run, `serial` or `run`, with its
+    /// What the words ask for, if they have a form that is known: `check`, `replay`, or a run, `serial`, `run` or `load`, with its
     /// options behind it. Runs on workers are asked for where they are made.
     pub fn command(&self, may_run: bool) -> Option<Command>
         ensures { Commands may_run self.now result }
@@ -70,6 +70,13 @@ pub enum Command {
         brief: bool,
         workers: u32,
     },
+    /// A run of at most so many entries on so many workers, of the program that fills a grid of this side with futures. The brief
+    /// text with its sum is due.
+    Load {
+        side: u32,
+        events: u32,
+        workers: u32,
+    },
     /// A record is checked against its program.
     Replay,
     Check,
@@ -86,10 +93,16 @@ fn command_of(words: &[String], may_run: bool) -> Option<Command>
         return alone(rest, Command::Replay);
     }
     if let Some(rest) = behind(words, "serial") {
-        return run_of(rest, false);
+        return run_of(rest, Kind::Serial);
+    }
+    if !may_run {
+        return None;
+    }
+    if let Some(rest) = behind(words, "load") {
+        return load_of(rest);
     }
     let rest = behind(words, "run")?;
-    if may_run { run_of(rest, true) } else { None }
+    run_of(rest, Kind::Run)
 }
 
 /// The command, where no word follows.
@@ -99,16 +112,34 @@ fn alone(rest: &[String], command: Command) -> Option<Command>
     if rest.is_empty() { Some(command) } else { None }
 }
 
-/// The run with these options, among which `--workers` may be.
-fn run_of(rest: &[String], workers: bool) -> Option<Command>
+/// The run with these options, those of `serial` or of `run`.
+fn run_of(rest: &[String], kind: Kind) -> Option<Command>
     ensures { MatchOption result
-        ((events : ℕ) (brief : Bool) (crew : ℕ) → AreOptions workers (map string_bytes rest.now) events brief crew → ⊥)
-        (λ c. (events : ℕ) × (brief : Bool) × (crew : ℕ) × (c ≡ command.Run events brief crew) × AreOptions workers (map string_bytes rest.now) events brief crew) }
+        ((events : ℕ) (brief : Bool) (crew : ℕ) → AreOptions kind (map string_bytes rest.now) events brief crew None → ⊥)
+        (λ c. (events : ℕ) × (brief : Bool) × (crew : ℕ) × (c ≡ command.Run events brief crew) × AreOptions kind (map string_bytes rest.now) events brief crew None) }
 {
-    let seen = options(rest, workers)?;
-    Some(Command::Run {
+    let seen = options(rest, kind)?;
+    match seen.side {
+        None => Some(Command::Run {
+            events: seen.bound,
+            brief: seen.brief,
+            workers: seen.crew,
+        }),
+        Some(_) => None,
+    }
+}
+
+/// The run of the grid with these options, among which its side is.
+fn load_of(rest: &[String]) -> Option<Command>
+    ensures { MatchOption result
+        ((side events crew : ℕ) → AreOptionsOfLoad (map string_bytes rest.now) side events crew → ⊥)
+        (λ c. (side : ℕ) × (events : ℕ) × (crew : ℕ) × (c ≡ command.Load side events crew) × AreOptionsOfLoad (map string_bytes rest.now) side events crew) }
+{
+    let seen = options(rest, Kind::Load)?;
+    let side = seen.side?;
+    Some(Command::Load {
+        side,
         events: seen.bound,
-        brief: seen.brief,
         workers: seen.crew,
     })
 }

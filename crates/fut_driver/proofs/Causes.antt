@@ -1,5 +1,5 @@
 -- Each verdict has one cause, but for want of memory.
-use Rattle.std.proofs.Common.{◌≡◌, ◌≢◌, ℕ, ◌-◌, ◌^◌, ◌<◌, ◌≤◌, Bool, false, List, [], length, codes, inl, inr, refl, sym, ap, subst, arith}
+use Rattle.std.proofs.Common.{◌≡◌, ◌≢◌, ℕ, ◌-◌, ◌^◌, ◌<◌, ◌≤◌, false, List, [], length, codes, inl, inr, refl, sym, ap, subst, arith}
 use Rattle.std.specs.Prelude.{Some, ◌⊎◌}
 use Rattle.fut_base.specs.declared.event.Event.{Event}
 use Rattle.fut_base.specs.declared.record.Race.{Race}
@@ -12,11 +12,14 @@ use Rattle.command_words.specs.Asking.{AreWordsOf, most_bytes}
 use Rattle.command_words.proofs.Wording.{one_command}
 use Rattle.fut_driver.specs.declared.status.Status.{Status}
 use Rattle.fut_driver.specs.declared.status.Status.TheVariants as status
-use Rattle.fut_driver.specs.Due.{legal_text}
+use Rattle.fut_driver.specs.declared.form.Form.{Form}
+use Rattle.fut_driver.specs.declared.form.Form.TheVariants as form
+use Rattle.fut_driver.specs.Due.{form_of, legal_text}
 use Rattle.fut_driver.specs.Given.{Asked, Asks}
 use Rattle.fut_driver.specs.Laws.{IsTold, AreAlike, AsksOneWorker, TellsRun, SameVerdict, OneVerdict, ReplayAnswersRun}
-use Rattle.fut_driver.specs.Verdict.{Says, IsRead, GaveTooMuch, IsGoodRecord, IsOfHistory, IsVerdict}
-use Rattle.fut_driver.proofs.Coming.{Same, OnOneWorker, Comes, same_by, one_comes}
+use Rattle.fut_driver.specs.Verdict.{Reads, AsksRun, Says, IsInput, IsWellTypedText, GaveTooMuch, IsGoodRecord, IsOfHistory, IsVerdict}
+use Rattle.fut_driver.proofs.Coming.{Same, IsRunDue, OnOneWorker, Comes, same_by, one_comes}
+use Rattle.fut_driver.proofs.Inputs.{all_of, one_taken}
 use Rattle.fut_driver.proofs.Consuming.{all_left, not_longer}
 
 -- ---- causes
@@ -30,6 +33,7 @@ record IsUsageDue (a : Asked) (s : Status) (h : List Event) (text : List ℕ) : 
 record IsFaultDue (a : Asked) (s : Status) (h : List Event) (text : List ℕ) : Type 0 where
   command : Command
   words : Asks a command
+  reads : Reads command
   rose : Rose a.faults_before a.faults_after
   is : Same s h text status.ReadFault [] (codes "read fault\n")
 
@@ -37,6 +41,7 @@ record IsFaultDue (a : Asked) (s : Status) (h : List Event) (text : List ℕ) : 
 record IsLongDue (a : Asked) (s : Status) (h : List Event) (text : List ℕ) : Type 0 where
   command : Command
   words : Asks a command
+  reads : Reads command
   gave : GaveTooMuch a (most_bytes command)
   is : Same s h text status.TooLong [] (codes "too long\n")
 
@@ -45,13 +50,13 @@ record IsReadDue (a : Asked) (s : Status) (h : List Event) (text : List ℕ) : T
   command : Command
   words : Asks a command
   bytes : List ℕ
-  read : IsRead a command bytes
+  read : IsInput a command bytes
   comes : Comes command bytes s h text
 
 abbrev Cause : Asked → Status → List Event → List ℕ → Type 0
 Cause a s h text = IsUsageDue a s h text ⊎ (IsFaultDue a s h text ⊎ (IsLongDue a s h text ⊎ IsReadDue a s h text))
 
-of_read : (a : Asked) (c : Command) (bytes : List ℕ) (s : Status) (h : List Event) (text : List ℕ) → Asks a c → IsRead a c bytes → Comes c bytes s h text → Cause a s h text
+of_read : (a : Asked) (c : Command) (bytes : List ℕ) (s : Status) (h : List Event) (text : List ℕ) → Asks a c → IsInput a c bytes → Comes c bytes s h text → Cause a s h text
 of_read a c bytes s h text words read comes = inr (inr (inr (record { command = c; words = words; bytes = bytes; read = read; comes = comes })))
 
 -- this comes of a record that is accepted
@@ -66,14 +71,24 @@ good_comes bytes P h races end s text good says due = inr (record {
   }));
 })
 
+-- this comes of a program that was run
+ran_comes : (c : Command) (bound : ℕ) (kept : Form) (workers : ℕ) (bytes : List ℕ) (P : tree.Program) (s : Status) (h : List Event) (text : List ℕ) → AsksRun c bound kept workers → IsWellTypedText bytes P → IsRunDue workers bound kept bytes P s h text → Comes c bytes s h text
+ran_comes command.Check bound kept workers bytes P s h text asked typed ran = absurd asked
+ran_comes command.Replay bound kept workers bytes P s h text asked typed ran = absurd asked
+ran_comes (command.Run events brief crew) bound kept workers bytes P s h text (e, f, w) typed ran =
+    let due : IsRunDue crew events (form_of brief) bytes P s h text =
+    subst (λ n. IsRunDue n events (form_of brief) bytes P s h text) (sym w) (subst (λ n. IsRunDue workers n (form_of brief) bytes P s h text) (sym e) (subst (λ x. IsRunDue workers bound x bytes P s h text) (sym f) ran)) in
+    inr (record { program = bytes; given = refl; due = inr (inr (record { tree = P; typed = typed; due = due })) })
+ran_comes (command.Load side events crew) bound kept workers bytes P s h text (e, f, w) typed ran =
+    let due : IsRunDue crew events form.Summed bytes P s h text =
+    subst (λ n. IsRunDue n events form.Summed bytes P s h text) (sym w) (subst (λ n. IsRunDue workers n form.Summed bytes P s h text) (sym e) (subst (λ x. IsRunDue workers bound x bytes P s h text) (sym f) ran)) in
+    inr (record { program = bytes; given = refl; due = inr (inr (record { tree = P; typed = typed; due = due })) })
+
 of_history : (a : Asked) (s : Status) (h : List Event) (text : List ℕ) → IsOfHistory a s h text → Cause a s h text
 of_history a s h text (inl v) =
-    of_read a (command.Run v.bound v.brief v.workers) v.bytes s h text v.words v.read
-    (inr (record {
-      program = v.bytes;
-      given = refl;
-      due = inr (inr (record { tree = v.tree; typed = v.program; due = record { races = v.races; end = v.end; cells = v.cells; ends = v.ends; is_due = v.is_due } }));
-    }))
+    of_read a v.command v.bytes s h text v.words v.read
+    (ran_comes v.command v.bound v.due v.workers v.bytes v.tree s h text v.asked v.program
+    (record { races = v.races; end = v.end; cells = v.cells; ends = v.ends; is_due = v.is_due }))
 of_history a s h text (inr v) =
     of_read a command.Replay v.bytes s h text v.words v.read (good_comes v.bytes v.tree h v.races v.end s text v.good v.says v.is_due)
 
@@ -116,8 +131,8 @@ cause_of a (status.NotLegal entry) h text v some =
 cause_of a (status.NotRun byte) h text v some =
     of_read a command.Replay v.bytes (status.NotRun byte) h text v.words v.read
     (inl (record { byte = byte; words = refl; fault = v.holds; is = (refl, v.no_run, v.is_due) }))
-cause_of a status.TooLong h text v some = inr (inr (inl (record { command = v.0.0; words = v.0.1; gave = v.0.2; is = (refl, v.1, v.2) })))
-cause_of a status.ReadFault h text v some = inr (inl (record { command = v.0.0; words = v.0.1; rose = v.4; is = (refl, v.1, v.2) }))
+cause_of a status.TooLong h text v some = inr (inr (inl (record { command = v.0.0; words = v.0.1; reads = v.0.2; gave = v.0.3; is = (refl, v.1, v.2) })))
+cause_of a status.ReadFault h text v some = inr (inl (record { command = v.0.0; words = v.0.1; reads = v.0.2; rose = v.4; is = (refl, v.1, v.2) }))
 cause_of a status.Usage h text v some = inl (record { none = v.0; is = (refl, v.1, v.2) })
 cause_of a status.NoMemory h text v some = absurd (some refl)
 cause_of a status.WriteFault h text v some = absurd v
@@ -142,13 +157,15 @@ asked_on a b bytes alike c x = subst (λ m. AreWordsOf m b.words c) alike.may_ru
 on_one : (a : Asked) → AsksOneWorker a → (c : Command) → Asks a c → OnOneWorker c
 on_one a one command.Check x = tt
 on_one a one command.Replay x = tt
-on_one a one (command.Run bound brief workers) x = one bound brief workers x
+on_one a one (command.Run bound brief workers) x = one (command.Run bound brief workers) bound (form_of brief) workers x (refl, refl, refl)
+on_one a one (command.Load side bound workers) x = one (command.Load side bound workers) bound form.Summed workers x (refl, refl, refl)
 
 -- what is read whole is not too long
-long_or_read : (a b : Asked) (bytes : List ℕ) (c d : Command) (read : List ℕ) → IsTold a bytes → IsTold b bytes → c ≡ d → GaveTooMuch a (most_bytes c) → IsRead b d read → ⊥
-long_or_read a b bytes c d read x y same gave whole =
+long_or_read : (a b : Asked) (bytes : List ℕ) (c d : Command) (read : List ℕ) → IsTold a bytes → IsTold b bytes → c ≡ d → Reads c → GaveTooMuch a (most_bytes c) → IsInput b d read → ⊥
+long_or_read a b bytes c d read x y same reads gave whole =
     let most = not_longer a.left_before a.left_after gave.bytes bytes x.left gave.taken in
-    let all = all_left b.left_before b.left_after read bytes y.left whole.taken whole.nothing_left in
+    let taken = all_of d b.left_before b.left_after b.ended read (subst Reads same reads) whole.taken in
+    let all = all_left b.left_before b.left_after read bytes y.left taken.0 taken.1 in
     omega (arith, most, gave.long, whole.short, ap length all, ap most_bytes same)
 
 one_cause : (a b : Asked) (bytes : List ℕ) (s r : Status) (h g : List Event) (text other : List ℕ) → AreAlike a b bytes → AsksOneWorker a → Cause a s h text → Cause b r g other → Same s h text r g other
@@ -167,19 +184,20 @@ one_cause a b bytes s r h g text other alike one (inr (inr (inl x))) (inr (inl y
     absurd (quiet_stays a.faults_before a.faults_after alike.told.can_rise x.gave.quiet (alike.failed.1 y.rose))
 one_cause a b bytes s r h g text other alike one (inr (inr (inl x))) (inr (inr (inl y))) = same_by s r status.TooLong h g [] text other _ x.is y.is
 one_cause a b bytes s r h g text other alike one (inr (inr (inl x))) (inr (inr (inr y))) =
-    absurd (long_or_read a b bytes x.command y.command y.bytes alike.told alike.other_told (one_asked a b bytes alike x.command y.command x.words y.words) x.gave y.read)
+    absurd (long_or_read a b bytes x.command y.command y.bytes alike.told alike.other_told (one_asked a b bytes alike x.command y.command x.words y.words) x.reads x.gave y.read)
 one_cause a b bytes s r h g text other alike one (inr (inr (inr x))) (inl y) = absurd (y.none x.command (asked_on a b bytes alike x.command x.words))
 one_cause a b bytes s r h g text other alike one (inr (inr (inr x))) (inr (inl y)) =
     absurd (quiet_stays a.faults_before a.faults_after alike.told.can_rise x.read.quiet (alike.failed.1 y.rose))
 one_cause a b bytes s r h g text other alike one (inr (inr (inr x))) (inr (inr (inl y))) =
-    absurd (long_or_read b a bytes y.command x.command x.bytes alike.other_told alike.told (sym (one_asked a b bytes alike x.command y.command x.words y.words)) y.gave x.read)
+    absurd (long_or_read b a bytes y.command x.command x.bytes alike.other_told alike.told (sym (one_asked a b bytes alike x.command y.command x.words y.words)) y.reads y.gave x.read)
 one_cause a b bytes s r h g text other alike one (inr (inr (inr x))) (inr (inr (inr y))) =
     let same = one_asked a b bytes alike x.command y.command x.words y.words in
-    let mine : x.bytes ≡ bytes = all_left a.left_before a.left_after x.bytes bytes alike.told.left x.read.taken x.read.nothing_left in
-    let theirs : y.bytes ≡ bytes = all_left b.left_before b.left_after y.bytes bytes alike.other_told.left y.read.taken y.read.nothing_left in
-    one_comes y.command bytes s r h g text other (on_one a one y.command (asked_back a b bytes alike y.command y.words))
-    (subst (λ c. Comes c bytes s h text) same (subst (λ bs. Comes x.command bs s h text) mine x.comes))
-    (subst (λ bs. Comes y.command bs r g other) theirs y.comes)
+    let mine = subst (λ c. IsInput a c x.bytes) same x.read in
+    let bytes_are : x.bytes ≡ y.bytes =
+    one_taken y.command a.left_before a.left_after a.ended x.bytes b.left_before b.left_after b.ended y.bytes bytes alike.told.left alike.other_told.left mine.taken y.read.taken in
+    one_comes y.command y.bytes s r h g text other (on_one a one y.command (asked_back a b bytes alike y.command y.words))
+    (subst (λ c. Comes c y.bytes s h text) same (subst (λ bs. Comes x.command bs s h text) bytes_are x.comes))
+    y.comes
 
 pub same_verdict : SameVerdict
 same_verdict a b bytes s r h g text other alike one x y some another =
@@ -208,10 +226,6 @@ history_of a status.NoMemory h text tells v = absurd tells
 history_of a status.Usage h text tells v = absurd tells
 history_of a status.TooLong h text tells v = absurd tells
 
-abbrev is_brief_run : Command → Bool
-is_brief_run (command.Run bound brief workers) = brief
-is_brief_run _ = false
-
 -- the record that a run wrote is one that is accepted, and the status says how it ended
 record WroteRecord (s : Status) (h : List Event) (text : List ℕ) : Type 0 where
   tree : tree.Program
@@ -225,7 +239,8 @@ wrote_record a bound workers s h text words (inl v) = record {
   tree = v.tree;
   races = v.races;
   end = v.end;
-  good = v.replayed (ap is_brief_run (one_command a.may_run a.words (command.Run v.bound v.brief v.workers) (command.Run bound false workers) v.words words));
+  good =
+      v.replayed (sym (subst (λ c. AsksRun c v.bound v.due v.workers) (one_command a.may_run a.words v.command (command.Run bound false workers) v.words words) v.asked).1);
   says = v.ends.1;
 }
 wrote_record a bound workers s h text words (inr v) =
@@ -240,7 +255,8 @@ replayed b s r h g text other wrote words left short quiet (inr (inr (inl x))) =
     absurd (omega (arith, most, x.gave.long, short, ap most_bytes same))
 replayed b s r h g text other wrote words left short quiet (inr (inr (inr x))) =
     let same = one_command b.may_run b.words x.command command.Replay x.words words in
-    let all = all_left b.left_before b.left_after x.bytes text left x.read.taken x.read.nothing_left in
+    let read = subst (λ c. IsInput b c x.bytes) same x.read in
+    let all = all_left b.left_before b.left_after x.bytes text left read.taken.0 read.taken.1 in
     let due = legal_text (length h) (length wrote.races) in
     let one = one_comes command.Replay text r s g h other due tt
     (subst (λ c. Comes c text r g other) same (subst (λ bs. Comes x.command bs r g other) all x.comes))

@@ -10,6 +10,7 @@ use Rattle.task_machine.specs.Machine.{FinishHolds, IsWhole}
 use Rattle.clean_laws.proofs.Clean.{clean_all, clean_runs_are_same}
 use Rattle.command_words.specs.declared.words.Command.TheVariants as command
 use Rattle.fut_driver.specs.Clean.{AnswersForAll, CleanAnswersForAll}
+use Rattle.fut_driver.proofs.Inputs.{given_whole}
 
 -- a whole history without a race answers for all
 for_all : (P : tree.Program) (h : List Event) (races : List Race) (end : Finish) → FinishHolds P h end → end ≡ finish.Whole → IsReport h races → races ≡ [] → AnswersForAll P h
@@ -29,7 +30,15 @@ pub clean_answers_for_all : CleanAnswersForAll
 clean_answers_for_all a h text (inl x) =
     let run = x.ends.0 in (
       x.tree,
-      record { command = command.Run x.bound x.brief x.workers; words = x.words; bytes = x.bytes; read = x.read; text = x.bytes; given = refl; typed = x.program },
+      record {
+        command = x.command;
+        words = x.words;
+        bytes = x.bytes;
+        read = x.read;
+        text = x.bytes;
+        given = given_whole x.command x.bound x.due x.workers x.bytes x.asked;
+        typed = x.program;
+      },
       for_all x.tree h x.races x.end run.run.holds x.ends.1.0 run.report x.ends.1.1,
     )
 clean_answers_for_all a h text (inr x) =

@@ -1,5 +1,5 @@
 -- One thing comes of a text.
-use Rattle.std.proofs.Common.{◌≡◌, ℕ, ◌+◌, ◌-◌, Bool, List, [], ◌∷◌, length, inl, inr, refl, sym, ap, ◌∙◌, subst, arith, ℤ}
+use Rattle.std.proofs.Common.{◌≡◌, ℕ, ◌+◌, ◌-◌, List, [], ◌∷◌, length, inl, inr, refl, sym, ap, ◌∙◌, subst, arith, ℤ}
 use Rattle.std.specs.Prelude.{Some, slice_get, ◌⊎◌}
 use Rattle.std.proofs.lemmas.List.{length-append}
 use Rattle.fut_base.specs.declared.event.Event.{Event}
@@ -29,9 +29,11 @@ use Rattle.run_check.specs.Checks.{IsAccepted, IsRefusedAt}
 use Rattle.run_check.proofs.Refusals.{accepted_is_not_refused, one_refusal}
 use Rattle.command_words.specs.declared.words.Command.{Command}
 use Rattle.command_words.specs.declared.words.Command.TheVariants as command
+use Rattle.fut_driver.specs.declared.form.Form.{Form}
+use Rattle.fut_driver.specs.declared.form.Form.TheVariants as form
 use Rattle.fut_driver.specs.declared.status.Status.{Status}
 use Rattle.fut_driver.specs.declared.status.Status.TheVariants as status
-use Rattle.fut_driver.specs.Due.{syntax_text, type_text, legal_text, not_legal_text, not_run_text, run_due}
+use Rattle.fut_driver.specs.Due.{syntax_text, type_text, legal_text, not_legal_text, not_run_text, form_of, run_due}
 use Rattle.fut_driver.specs.Outcomes.{ending_of}
 use Rattle.fut_driver.specs.Verdict.{IsWellTypedText, IsIllTypedText, Says, limits_of, EndsIn, IsGiven}
 
@@ -104,19 +106,19 @@ says_how status.Usage end races says = absurd says
 says_how status.TooLong end races says = absurd says
 
 -- a program was run, and this text is due
-pub record IsRunDue (workers bound : ℕ) (brief : Bool) (bytes : List ℕ) (P : tree.Program) (s : Status) (h : List Event) (text : List ℕ) : Type 0 where
+pub record IsRunDue (workers bound : ℕ) (due : Form) (bytes : List ℕ) (P : tree.Program) (s : Status) (h : List Event) (text : List ℕ) : Type 0 where
   pub races : List Race
   pub end : Finish
   pub cells : List ℤ
   pub ends : EndsIn P workers bound s end h races cells
-  pub is_due : text ≡ run_due brief bytes (cell_arrays P) h races end cells
+  pub is_due : text ≡ run_due due bytes (cell_arrays P) h races end cells
 
-one_run : (workers bound : ℕ) (brief : Bool) (bytes : List ℕ) (P : tree.Program) (s r : Status) (h g : List Event) (text other : List ℕ) → workers ≡ 1 → IsRunDue workers bound brief bytes P s h text → IsRunDue workers bound brief bytes P r g other → Same s h text r g other
-one_run workers bound brief bytes P s r h g text other one x y =
+one_run : (workers bound : ℕ) (kept : Form) (bytes : List ℕ) (P : tree.Program) (s r : Status) (h g : List Event) (text other : List ℕ) → workers ≡ 1 → IsRunDue workers bound kept bytes P s h text → IsRunDue workers bound kept bytes P r g other → Same s h text r g other
+one_run workers bound kept bytes P s r h g text other one x y =
     let run = serial_is_one P (limits_of bound) h g x.end y.end x.cells y.cells (x.ends.0.serial one) (y.ends.0.serial one) in
     let races_are : x.races ≡ y.races = one_report g x.races y.races (subst (λ e. IsReport e x.races) run.0 x.ends.0.report) y.ends.0.report in
     let ending : ending_of x.end x.races ≡ ending_of y.end y.races = ap (λ e. ending_of e x.races) run.1 ∙ ap (ending_of y.end) races_are in
-    let due = λ (e : List Event) (rs : List Race) (f : Finish) (cs : List ℤ). run_due brief bytes (cell_arrays P) e rs f cs in
+    let due = λ (e : List Event) (rs : List Race) (f : Finish) (cs : List ℤ). run_due kept bytes (cell_arrays P) e rs f cs in
     let dues : due h x.races x.end x.cells ≡ due g y.races y.end y.cells =
     ap (λ e. due e x.races x.end x.cells) run.0 ∙ (ap (λ rs. due g rs x.end x.cells) races_are ∙ (ap (λ f. due g y.races f x.cells) run.1 ∙ ap (due g y.races y.end) run.2)) in
     (says_how s x.end x.races x.ends.1 ∙ (ending ∙ sym (says_how r y.end y.races y.ends.1)), run.0, x.is_due ∙ (dues ∙ sym y.is_due))
@@ -161,16 +163,19 @@ abbrev pub OnOneWorker : Command → Type 0
 OnOneWorker command.Check = Unit {0}
 OnOneWorker command.Replay = Unit {0}
 OnOneWorker (command.Run bound brief workers) = workers ≡ 1
+OnOneWorker (command.Load side bound workers) = workers ≡ 1
 
 -- what comes of a program that breaks no type rule
 abbrev pub IsGoodDue : Command → List ℕ → tree.Program → Status → List Event → List ℕ → Type 0
 IsGoodDue command.Check bytes P s h text = Same s h text status.Accepted [] (canonical_text P)
-IsGoodDue (command.Run bound brief workers) bytes P s h text = IsRunDue workers bound brief bytes P s h text
+IsGoodDue (command.Run bound brief workers) bytes P s h text = IsRunDue workers bound (form_of brief) bytes P s h text
+IsGoodDue (command.Load side bound workers) bytes P s h text = IsRunDue workers bound form.Summed bytes P s h text
 IsGoodDue command.Replay bytes P s h text = IsRecordDue bytes P s h text
 
 one_good : (c : Command) (bytes : List ℕ) (P : tree.Program) (s r : Status) (h g : List Event) (text other : List ℕ) → OnOneWorker c → IsGoodDue c bytes P s h text → IsGoodDue c bytes P r g other → Same s h text r g other
 one_good command.Check bytes P s r h g text other one x y = same_by s r status.Accepted h g [] text other (canonical_text P) x y
-one_good (command.Run bound brief workers) bytes P s r h g text other one x y = one_run workers bound brief bytes P s r h g text other one x y
+one_good (command.Run bound brief workers) bytes P s r h g text other one x y = one_run workers bound (form_of brief) bytes P s r h g text other one x y
+one_good (command.Load side bound workers) bytes P s r h g text other one x y = one_run workers bound form.Summed bytes P s r h g text other one x y
 one_good command.Replay bytes P s r h g text other one x y = one_record bytes P s r h g text other x y
 
 -- the program text has a fault place
@@ -238,12 +243,14 @@ Comes c bytes s h text = IsNotRunDue c bytes s h text ⊎ IsFoundDue c bytes s h
 one_given : (c : Command) (bytes p q : List ℕ) → IsGiven c bytes p → IsGiven c bytes q → p ≡ q
 one_given command.Check bytes p q x y = x ∙ sym y
 one_given (command.Run _ _ _) bytes p q x y = x ∙ sym y
+one_given (command.Load _ _ _) bytes p q x y = x ∙ sym y
 one_given command.Replay bytes p q (h, races, end, x) (h', races', end', y) = (one_value bytes p h races end q h' races' end' x y).0
 
 not_both : (c : Command) (bytes p : List ℕ) (byte : ℕ) → c ≡ command.Replay → IsFault bytes byte → IsGiven c bytes p → ⊥
 not_both command.Replay bytes p byte is fault (h, races, end, given) = fault.none (p, h, races, end, given)
 not_both command.Check bytes p byte is fault given = cc
 not_both (command.Run _ _ _) bytes p byte is fault given = cc
+not_both (command.Load _ _ _) bytes p byte is fault given = cc
 
 pub one_comes : (c : Command) (bytes : List ℕ) (s r : Status) (h g : List Event) (text other : List ℕ) → OnOneWorker c → Comes c bytes s h text → Comes c bytes r g other → Same s h text r g other
 one_comes c bytes s r h g text other one (inl x) (inl y) =

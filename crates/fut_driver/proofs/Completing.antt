@@ -13,15 +13,20 @@ use Rattle.command_words.specs.declared.words.Command.{Command}
 use Rattle.command_words.specs.declared.words.Command.TheVariants as command
 use Rattle.command_words.specs.Asking.{most_bytes}
 use Rattle.fut_driver.specs.Given.{Asked, Told, Asks}
-use Rattle.fut_driver.specs.Verdict.{IsRead, IsWellTypedText, IsRefusedRecord, GaveTooMuch, IsGiven, IsOfHistory, IsVerdict, IsFit, IsUnhindered, AsksHistory, IsFree}
+use Rattle.fut_driver.specs.Verdict.{Reads, IsLeft, IsInput, IsWellTypedText, IsRefusedRecord, GaveTooMuch, IsGiven, IsOfHistory, IsVerdict, IsFit, IsUnhindered, AsksHistory, IsFree}
 use Rattle.command_words.proofs.Wording.{one_command}
 use Rattle.fut_driver.proofs.Coming.{no_syntax, no_type_fault}
-use Rattle.fut_driver.proofs.Consuming.{all_left, not_longer}
+use Rattle.fut_driver.proofs.Consuming.{not_longer}
+use Rattle.fut_driver.proofs.Inputs.{was_left, taken_is_left}
 
 -- ---- what was read
 
-read_is : (a : Asked) (t : Told) (u : IsUnhindered a t) (c : Command) (bytes : List ℕ) → IsRead a c bytes → bytes ≡ u.bytes
-read_is a t u c bytes read = all_left a.left_before a.left_after bytes u.bytes u.left read.taken read.nothing_left
+-- the words ask for one command
+left_is : (a : Asked) (t : Told) (u : IsUnhindered a t) (c : Command) → Asks a c → IsLeft c a.left_before u.bytes
+left_is a t u c words = subst (λ d. IsLeft d a.left_before u.bytes) (one_command a.may_run a.words u.command c u.words words) u.left
+
+read_is : (a : Asked) (t : Told) (u : IsUnhindered a t) (c : Command) (bytes : List ℕ) → Asks a c → IsInput a c bytes → bytes ≡ u.bytes
+read_is a t u c bytes words read = taken_is_left c a.left_before a.left_after a.ended bytes u.bytes (left_is a t u c words) read.taken
 
 -- ---- what fits
 
@@ -32,6 +37,7 @@ given_typed command.Replay bytes program (h, races, end, given) (P, h', races', 
     (P, subst (λ p. IsWellTypedText p P) (sym same.0) of.typed)
 given_typed command.Check bytes program given (P, typed) = (P, subst (λ b. IsWellTypedText b P) (sym given) typed)
 given_typed (command.Run _ _ _) bytes program given (P, typed) = (P, subst (λ b. IsWellTypedText b P) (sym given) typed)
+given_typed (command.Load _ _ _) bytes program given (P, typed) = (P, subst (λ b. IsWellTypedText b P) (sym given) typed)
 
 is_a_run : (bytes : List ℕ) (count : ℕ) → IsFit command.Replay bytes → IsFault bytes count → ⊥
 is_a_run bytes count (P, h, races, end, (of, accepted)) fault = fault.none (of.program, h, races, end, of.record_is)
@@ -48,23 +54,23 @@ not_refused bytes k (P, h, races, end, (of, accepted)) bad =
 -- ---- the answer
 
 -- what the command read fits it
-command_fit : (a : Asked) (t : Told) (u : IsUnhindered a t) (c : Command) (bytes : List ℕ) → Asks a c → IsRead a c bytes → IsFit c bytes
+command_fit : (a : Asked) (t : Told) (u : IsUnhindered a t) (c : Command) (bytes : List ℕ) → Asks a c → IsInput a c bytes → IsFit c bytes
 command_fit a t u c bytes words read =
     subst (λ d. IsFit d bytes) (one_command a.may_run a.words u.command c u.words words)
-    (subst (IsFit u.command) (sym (read_is a t u c bytes read)) u.fit)
+    (subst (IsFit u.command) (sym (read_is a t u c bytes words read)) u.fit)
 
-text_typed : (a : Asked) (t : Told) (u : IsUnhindered a t) (c : Command) (bytes program : List ℕ) → Asks a c → IsRead a c bytes → IsGiven c bytes program → (P : tree.Program) × IsWellTypedText program P
+text_typed : (a : Asked) (t : Told) (u : IsUnhindered a t) (c : Command) (bytes program : List ℕ) → Asks a c → IsInput a c bytes → IsGiven c bytes program → (P : tree.Program) × IsWellTypedText program P
 text_typed a t u c bytes program words read given =
     given_typed c bytes program given (command_fit a t u c bytes words read)
 
-not_too_long : (a : Asked) (t : Told) (u : IsUnhindered a t) (c : Command) → Asks a c → GaveTooMuch a (most_bytes c) → ⊥
-not_too_long a t u c words gave =
-    let most = not_longer a.left_before a.left_after gave.bytes u.bytes u.left gave.taken in
+not_too_long : (a : Asked) (t : Told) (u : IsUnhindered a t) (c : Command) → Asks a c → Reads c → GaveTooMuch a (most_bytes c) → ⊥
+not_too_long a t u c words reads gave =
+    let most = not_longer a.left_before a.left_after gave.bytes u.bytes (was_left c a.left_before u.bytes reads (left_is a t u c words)) gave.taken in
     let same : most_bytes c ≡ most_bytes u.command = ap most_bytes (one_command a.may_run a.words c u.command words u.words) in
     absurd (omega (arith, most, gave.long, u.short, same))
 
 asks_history : (a : Asked) (s : Status) (h : List Event) (text : List ℕ) → IsOfHistory a s h text → AsksHistory a
-asks_history a s h text (inl v) = inl (v.bound, v.brief, v.workers, v.words)
+asks_history a s h text (inl v) = inl (v.command, v.bound, v.due, v.workers, v.words, v.asked)
 asks_history a s h text (inr v) = inr v.words
 
 pub complete : (a : Asked) (t : Told) (s : Status) (h : List Event) (text : List ℕ) → IsVerdict a s h text → IsUnhindered a t → IsFree a s
@@ -84,4 +90,4 @@ complete a t status.ReadFault h text v u = absurd (u.source_quiet v.4)
 complete a t status.WriteFault h text v u = absurd v
 complete a t status.NoMemory h text v u = tt
 complete a t status.Usage h text v u = absurd (v.0 u.command u.words)
-complete a t status.TooLong h text v u = absurd (not_too_long a t u v.0.0 v.0.1 v.0.2)
+complete a t status.TooLong h text v u = absurd (not_too_long a t u v.0.0 v.0.1 v.0.2 v.0.3)

@@ -1,15 +1,17 @@
 -- From what is due to what is answered.
-use Rattle.std.proofs.Common.{◌≡◌, ◌≢◌, ℕ, ◌≤◌, Bool, true, false, List, [], ◌∷◌, length, inl, inr, refl, sym, ap, subst, arith}
-use Rattle.std.specs.Prelude.{◌⊎◌}
+use Rattle.std.proofs.Common.{◌≡◌, ◌≢◌, ℕ, ◌≤◌, Bool, true, false, List, [], ◌∷◌, length, inl, inr, refl, sym, ap, ◌∙◌, subst, arith}
+use Rattle.std.specs.Prelude.{◌⊎◌, None}
 use Rattle.std.specs.Io.KnownBytes.{Appends}
 use Rattle.fut_base.specs.declared.event.Event.{Event}
 use Rattle.fut_base.specs.Events.{events_of}
 use Rattle.fut_syntax.specs.Trees as tree
 use Rattle.command_words.specs.declared.options.Choice.{Choice}
 use Rattle.command_words.specs.declared.options.Choice.TheVariants as choice
+use Rattle.command_words.specs.declared.options.Kind.TheVariants as kind
 use Rattle.command_words.specs.declared.words.Command.{Command}
 use Rattle.command_words.specs.declared.words.Command.TheVariants as command
 use Rattle.command_words.specs.Asking.{EachMayStand, workers_of, AreOptions, AreWordsOf, most_bytes}
+use Rattle.fut_driver.specs.declared.form.Form.{Form}
 use Rattle.fut_driver.specs.declared.status.Status.{Status}
 use Rattle.fut_driver.specs.declared.status.Status.TheVariants as status
 use Rattle.fut_driver.specs.declared.status.Ended.{Ended}
@@ -20,51 +22,53 @@ use Rattle.fut_driver.specs.declared.job.Prepared.TheVariants as prepared
 use Rattle.fut_driver.specs.Given.{Asked, Told, Asks}
 use Rattle.fut_driver.specs.Due.{due_text}
 use Rattle.fut_driver.specs.Outcomes.{RanAs, IsJob, IsAsked, IsPrepared, IsJudged, IsUsage, IsEnding}
-use Rattle.fut_driver.specs.Verdict.{IsRead, Says, IsVerdict, IsAnswer, IsUnhindered, IsFree}
+use Rattle.fut_driver.specs.Verdict.{AsksRun, IsTaken, IsInput, Says, IsVerdict, IsAnswer, IsUnhindered, IsFree}
 use Rattle.fut_driver.proofs.Completing.{complete}
 use Rattle.fut_driver.proofs.Endings.{run_verdict, not_usage}
 
 -- ---- what was read
 
 -- what comes of the bytes that a command read comes of the call
-pub judged : (a : Asked) (c : Command) (bytes : List ℕ) (p : Prepared) → Asks a c → IsRead a c bytes → IsPrepared c bytes p → IsJudged a p
+pub judged : (a : Asked) (c : Command) (bytes : List ℕ) (p : Prepared) → Asks a c → IsInput a c bytes → IsPrepared c bytes p → IsJudged a p
 judged a c bytes (prepared.Done o) asks read is = is a asks read
 judged a c bytes (prepared.Due job) asks read is =
-    let asked : Asks a (command.Run job.events job.brief job.workers) = subst (Asks a) is.0 asks in
-    let whole : IsRead a (command.Run job.events job.brief job.workers) bytes = subst (λ d. IsRead a d bytes) is.0 read in
-    record { words = asked; read = subst (IsRead a (command.Run job.events job.brief job.workers)) (sym is.1) whole; job_is = is.2 }
+    record { command = c; words = asks; asked = is.0; read = subst (IsInput a c) (sym is.1) read; job_is = is.2 }
 
 -- and it is no usage
-pub no_usage : (m : Bool) (words : List (List ℕ)) (c : Command) (bytes : List ℕ) (p : Prepared) → AreWordsOf m words c → length bytes ≤ most_bytes c → IsPrepared c bytes p → IsUsage p → ⊥
-no_usage m words c bytes (prepared.Done o) asks short is usage = not_usage m words c bytes o.status (events_of o.history) o.text.items asks short is usage
-no_usage m words c bytes (prepared.Due job) asks short is usage = usage
+pub no_usage : (m : Bool) (words : List (List ℕ)) (c : Command) (bytes : List ℕ) (p : Prepared) → AreWordsOf m words c → length bytes ≤ most_bytes c → IsTaken c None None true bytes → IsPrepared c bytes p → IsUsage p → ⊥
+no_usage m words c bytes (prepared.Done o) asks short taken is usage = not_usage m words c bytes o.status (events_of o.history) o.text.items asks short taken is usage
+no_usage m words c bytes (prepared.Due job) asks short taken is usage = usage
 
 -- ---- jobs
 
-none_named : (cs : List Choice) → EachMayStand false cs → workers_of 1 cs ≡ 1
+none_named : (cs : List Choice) → EachMayStand kind.Serial cs → workers_of 1 cs ≡ 1
 none_named [] each = refl
 none_named (choice.Events n ∷ cs) each = none_named cs each.1
 none_named (choice.Brief ∷ cs) each = none_named cs each.1
 none_named (choice.Workers n ∷ cs) each = absurd (let no : false ≡ true = each.0.0 in cc)
+none_named (choice.Side n ∷ cs) each = absurd (let no : false ≡ true = each.0.0 in cc)
 
 -- where no runs on workers are made, no job is asked for
-pub no_job : (words : List (List ℕ)) (bound : ℕ) (brief : Bool) (workers : ℕ) → AreWordsOf false words (command.Run bound brief workers) → workers ≢ 1 → ⊥
-no_job words bound brief workers (inl (rest, is, o)) several = several (subst (λ n. n ≡ 1) (sym o.workers_are) (none_named o.choices o.allowed))
-no_job words bound brief workers (inr w) several = let no : false ≡ true = w.1 in cc
+pub no_job : (words : List (List ℕ)) (c : Command) (bound : ℕ) (kept : Form) (workers : ℕ) → AreWordsOf false words c → AsksRun c bound kept workers → workers ≢ 1 → ⊥
+no_job words command.Check bound kept workers w asked several = asked
+no_job words command.Replay bound kept workers w asked several = asked
+no_job words (command.Run events brief crew) bound kept workers (inl (rest, is, o)) asked several = several (sym asked.2 ∙ (o.workers_are ∙ none_named o.choices o.allowed))
+no_job words (command.Run events brief crew) bound kept workers (inr w) asked several = let no : false ≡ true = w.1 in cc
+no_job words (command.Load side events crew) bound kept workers w asked several = let no : false ≡ true = w.1 in cc
 
 -- what came of a job is a verdict
-pub job_verdict : (a : Asked) (job : Job) (s : Status) (h : List Event) (made : List ℕ) → IsAsked a job → ((P : tree.Program) → IsJob P job → RanAs P job.workers job.events job.brief job.text.items s h made) → IsVerdict a s h (due_text s made)
+pub job_verdict : (a : Asked) (job : Job) (s : Status) (h : List Event) (made : List ℕ) → IsAsked a job → ((P : tree.Program) → IsJob P job → RanAs P job.workers job.events job.form job.text.items s h made) → IsVerdict a s h (due_text s made)
 job_verdict a job s h made asked ran =
     let P = asked.job_is.0 in
     let is = asked.job_is.1 in
-    run_verdict a job.workers job.events job.brief job.text.items P s h made is.typed (ran P is) asked.words asked.read
+    run_verdict a asked.command job.workers job.events job.form job.text.items P s h made asked.asked is.typed (ran P is) asked.words asked.read
 
 -- and no usage
-ran_is_no_usage : (P : tree.Program) (workers bound : ℕ) (brief : Bool) (text : List ℕ) (s : Status) (h : List Event) (made : List ℕ) → RanAs P workers bound brief text s h made → s ≡ status.Usage → ⊥
-ran_is_no_usage P workers bound brief text s h made ran is = subst (λ x. Says x ran.end ran.races) is ran.ends.1
+ran_is_no_usage : (P : tree.Program) (workers bound : ℕ) (kept : Form) (text : List ℕ) (s : Status) (h : List Event) (made : List ℕ) → RanAs P workers bound kept text s h made → s ≡ status.Usage → ⊥
+ran_is_no_usage P workers bound kept text s h made ran is = subst (λ x. Says x ran.end ran.races) is ran.ends.1
 
-pub job_no_usage : (P : tree.Program) (job : Job) (s : Status) (h : List Event) (made : List ℕ) → IsJob P job → ((Q : tree.Program) → IsJob Q job → RanAs Q job.workers job.events job.brief job.text.items s h made) → s ≡ status.Usage → ⊥
-job_no_usage P job s h made is ran = ran_is_no_usage P job.workers job.events job.brief job.text.items s h made (ran P is)
+pub job_no_usage : (P : tree.Program) (job : Job) (s : Status) (h : List Event) (made : List ℕ) → IsJob P job → ((Q : tree.Program) → IsJob Q job → RanAs Q job.workers job.events job.form job.text.items s h made) → s ≡ status.Usage → ⊥
+job_no_usage P job s h made is ran = ran_is_no_usage P job.workers job.events job.form job.text.items s h made (ran P is)
 
 -- ---- what is answered
 

@@ -4,6 +4,7 @@ pub mod Coming
 pub mod Completing
 pub mod Consuming
 pub mod Endings
+pub mod Inputs
 pub mod Jobs
 pub mod Naming
 pub mod Wordings

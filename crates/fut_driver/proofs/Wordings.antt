@@ -1,24 +1,25 @@
 -- What is answered depends on the command alone.
 use Rattle.std.proofs.Common.{◌≡◌, ℕ, ◌+◌, ◌≤◌, Bool, true, false, List, [], ◌∷◌, codes, inl, inr, refl, sym, ap, ◌∙◌, subst, arith, decimal}
-use Rattle.std.specs.Prelude.{nat_lt}
+use Rattle.std.specs.Prelude.{nat_lt, None}
 use Rattle.std.proofs.lemmas.Fmt.{decimal_digit}
 use Rattle.fut_base.specs.declared.event.Event.{Event}
 use Rattle.command_words.specs.declared.options.Choice.{Choice}
 use Rattle.command_words.specs.declared.options.Choice.TheVariants as choice
+use Rattle.command_words.specs.declared.options.Kind.TheVariants as kind
 use Rattle.command_words.specs.declared.words.Command.{Command}
 use Rattle.command_words.specs.declared.words.Command.TheVariants as command
-use Rattle.command_words.specs.Asking.{spellings, count, is_events, is_brief, is_workers, MayStand, EachMayStand, AreOptions, AreWordsOf, most_bytes}
+use Rattle.command_words.specs.Asking.{spellings, count, is_events, is_brief, is_workers, is_side, MayStand, EachMayStand, AreOptions, AreWordsOf, most_bytes}
 use Rattle.command_words.proofs.Wording.{one_command}
 use Rattle.fut_driver.specs.declared.status.Status.{Status}
 use Rattle.fut_driver.specs.declared.status.Status.TheVariants as status
 use Rattle.fut_driver.specs.Due.{syntax_text, type_text, not_legal_text, not_run_text}
 use Rattle.fut_driver.specs.Given.{Asked, Asks}
 use Rattle.fut_driver.specs.Laws.{with_words, CommandDecides, RunIsSerial}
-use Rattle.fut_driver.specs.Verdict.{IsRead, GaveTooMuch, IsOfHistory, IsOfBytes, IsVerdict}
+use Rattle.fut_driver.specs.Verdict.{IsInput, GaveTooMuch, IsOfHistory, IsOfBytes, IsVerdict}
 
 module _ (a : Asked) (may_run : Bool) (words : List (List ℕ)) where
-  read_so : (c : Command) (bytes : List ℕ) → IsRead a c bytes → IsRead (with_words a may_run words) c bytes
-  read_so c bytes r = record { short = r.short; taken = r.taken; nothing_left = r.nothing_left; ended = r.ended; quiet = r.quiet }
+  read_so : (c : Command) (bytes : List ℕ) → IsInput a c bytes → IsInput (with_words a may_run words) c bytes
+  read_so c bytes r = record { short = r.short; taken = r.taken; quiet = r.quiet }
 
   gave_so : (most : ℕ) → GaveTooMuch a most → GaveTooMuch (with_words a may_run words) most
   gave_so most g = record { bytes = g.bytes; long = g.long; taken = g.taken; quiet = g.quiet }
@@ -29,12 +30,14 @@ module _ (a : Asked) (may_run : Bool) (words : List (List ℕ)) where
 
     history_so : (s : Status) (h : List Event) (text : List ℕ) → IsOfHistory a s h text → IsOfHistory (with_words a may_run words) s h text
     history_so s h text (inl v) = inl (record {
+      command = v.command;
+      words = asks_so v.command v.words;
       bound = v.bound;
-      brief = v.brief;
+      due = v.due;
       workers = v.workers;
-      words = asks_so (command.Run v.bound v.brief v.workers) v.words;
+      asked = v.asked;
       bytes = v.bytes;
-      read = read_so (command.Run v.bound v.brief v.workers) v.bytes v.read;
+      read = read_so v.command v.bytes v.read;
       tree = v.tree;
       program = v.program;
       races = v.races;
@@ -75,8 +78,8 @@ module _ (a : Asked) (may_run : Bool) (words : List (List ℕ)) where
     verdict_so (status.IllTyped rule line column) h text (d, v) = (d, bytes_so d h text (type_text rule line column) _ v)
     verdict_so (status.NotLegal entry) h text v = bytes_so command.Replay h text (not_legal_text entry) _ v
     verdict_so (status.NotRun byte) h text v = bytes_so command.Replay h text (not_run_text byte) _ v
-    verdict_so status.TooLong h text ((d, x, gave), none, due) = ((d, asks_so d x, gave_so (most_bytes d) gave), none, due)
-    verdict_so status.ReadFault h text ((d, x), none, due, less, rose) = ((d, asks_so d x), none, due, less, rose)
+    verdict_so status.TooLong h text ((d, x, reads, gave), none, due) = ((d, asks_so d x, reads, gave_so (most_bytes d) gave), none, due)
+    verdict_so status.ReadFault h text ((d, x, reads), none, due, less, rose) = ((d, asks_so d x, reads), none, due, less, rose)
     verdict_so status.NoMemory h text v = v
     verdict_so status.Usage h text v = absurd (v.0 c asks)
     verdict_so status.WriteFault h text v = absurd v
@@ -87,18 +90,20 @@ command_decides a may_run words c s h text asks others v = verdict_so a may_run 
 -- ---- `serial` with options, and `run` with one worker and them
 
 -- no option is `--workers`
-none_names : (cs : List Choice) → EachMayStand false cs → count is_workers cs ≡ 0
+none_names : (cs : List Choice) → EachMayStand kind.Serial cs → count is_workers cs ≡ 0
 none_names [] each = refl
 none_names (choice.Events n ∷ cs) each = let none = none_names cs each.1 in omega (arith, none)
 none_names (choice.Brief ∷ cs) each = let none = none_names cs each.1 in omega (arith, none)
 none_names (choice.Workers n ∷ cs) each = absurd (let no : false ≡ true = each.0.0 in cc)
+none_names (choice.Side n ∷ cs) each = absurd (let no : false ≡ true = each.0.0 in cc)
 
-may_stand : (c : Choice) → MayStand false c → MayStand true c
+may_stand : (c : Choice) → MayStand kind.Serial c → MayStand kind.Run c
 may_stand (choice.Events n) may = may
 may_stand choice.Brief may = may
 may_stand (choice.Workers n) may = absurd (let no : false ≡ true = may.0 in cc)
+may_stand (choice.Side n) may = absurd (let no : false ≡ true = may.0 in cc)
 
-each_may_stand : (cs : List Choice) → EachMayStand false cs → EachMayStand true cs
+each_may_stand : (cs : List Choice) → EachMayStand kind.Serial cs → EachMayStand kind.Run cs
 each_may_stand [] each = tt
 each_may_stand (c ∷ cs) each = (may_stand c each.0, each_may_stand cs each.1)
 
@@ -109,19 +114,21 @@ one_is = sym (decimal_digit 1 (omega arith))
 none_more : (n : ℕ) → 0 + n ≡ n
 none_more n = omega arith
 
-run_options : (words : List (List ℕ)) (bound : ℕ) (brief : Bool) (workers : ℕ) → AreOptions false words bound brief workers → AreOptions true (codes "--workers" ∷ (codes "1" ∷ words)) bound brief 1
+run_options : (words : List (List ℕ)) (bound : ℕ) (brief : Bool) (workers : ℕ) → AreOptions kind.Serial words bound brief workers None → AreOptions kind.Run (codes "--workers" ∷ (codes "1" ∷ words)) bound brief 1 None
 run_options words bound brief workers o =
     let none = none_names o.choices o.allowed in
     let events : 0 + count is_events o.choices ≤ 1 = omega (arith, o.once.events) in
     let briefs : 0 + count is_brief o.choices ≤ 1 = omega (arith, o.once.brief) in
+    let sides : 0 + count is_side o.choices ≤ 1 = omega (arith, o.once.side) in
     record {
       choices = choice.Workers 1 ∷ o.choices;
       written = ap (λ ws. codes "--workers" ∷ (codes "1" ∷ ws)) o.written ∙ ap (λ d. codes "--workers" ∷ (d ∷ spellings o.choices)) one_is;
       allowed = ((refl, (omega arith, omega arith)), each_may_stand o.choices o.allowed);
-      once = record { events = omega (arith, events); brief = omega (arith, briefs); workers = omega (arith, none) };
+      once = record { events = omega (arith, events); brief = omega (arith, briefs); workers = omega (arith, none); side = omega (arith, sides) };
       bound = o.bound;
       brief_is = o.brief_is ∙ ap (nat_lt 0) (sym (none_more (count is_brief o.choices)));
       workers_are = refl;
+      side_is = o.side_is;
     }
 
 pub run_is_serial : RunIsSerial

@@ -8,7 +8,7 @@ use Rattle.clean_laws.specs.Traces.{IsSameRun}
 use Rattle.command_words.specs.declared.words.Command.{Command}
 use Rattle.fut_driver.specs.Given.{Asked, Asks}
 use Rattle.fut_driver.specs.declared.status.Status.TheVariants as status
-use Rattle.fut_driver.specs.Verdict.{IsRead, IsGiven, IsWellTypedText, IsVerdict}
+use Rattle.fut_driver.specs.Verdict.{IsInput, IsGiven, IsWellTypedText, IsVerdict}
 
 -- a whole history of a program answers for all others: no legal one is longer, and each other whole one ends with the same cells and
 -- is the same run, up to the numbers of tasks, futures and strands
@@ -25,7 +25,7 @@ pub record IsAsked (a : Asked) (P : tree.Program) : Type 0 where
   pub command : Command
   pub words : Asks a command
   pub bytes : List ℕ
-  pub read : IsRead a command bytes
+  pub read : IsInput a command bytes
   pub text : List ℕ
   pub given : IsGiven command bytes text
   pub typed : IsWellTypedText text P

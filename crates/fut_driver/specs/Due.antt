@@ -6,6 +6,8 @@ use Rattle.fut_base.specs.declared.record.Finish.{Finish}
 use Rattle.task_machine.specs.Texts.{CellArray}
 use Rattle.run_record.specs.RunText.{run_text}
 use Rattle.race_report.specs.Brief.{brief_text}
+use Rattle.fut_driver.specs.declared.form.Form.{Form}
+use Rattle.fut_driver.specs.declared.form.Form.TheVariants as form
 use Rattle.fut_driver.specs.declared.status.Status.{Status}
 use Rattle.fut_driver.specs.declared.status.Status.TheVariants as status
 
@@ -29,10 +31,16 @@ not_legal_text entry = codes "not legal " ++ (decimal entry ++ codes "\n")
 abbrev pub not_run_text : ℕ → List ℕ
 not_run_text byte = codes "not a run " ++ (decimal byte ++ codes "\n")
 
--- the record of a run, or, where that is asked for, its brief text, without the line of the sum
-abbrev pub run_due : Bool → List ℕ → List CellArray → List Event → List Race → Finish → List ℤ → List ℕ
-run_due false program arrays h races end cells = run_text program h races end
-run_due true program arrays h races end cells = brief_text arrays h races end false cells
+-- the brief text is asked for, or the record
+abbrev pub form_of : Bool → Form
+form_of false = form.Record
+form_of true = form.Brief
+
+-- the record of a run, its brief text, or the brief text with the line of the sum
+abbrev pub run_due : Form → List ℕ → List CellArray → List Event → List Race → Finish → List ℤ → List ℕ
+run_due form.Record program arrays h races end cells = run_text program h races end
+run_due form.Brief program arrays h races end cells = brief_text arrays h races end false cells
+run_due form.Summed program arrays h races end cells = brief_text arrays h races end true cells
 
 -- the text that was made of a program, a run or a legal record, or a line that says why there is none
 abbrev pub due_text : Status → List ℕ → List ℕ

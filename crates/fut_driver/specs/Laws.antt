@@ -1,14 +1,16 @@
 -- Laws of verdicts.
-use Rattle.std.specs.Prelude.{◌≡◌, ◌≢◌, ℕ, ◌-◌, ◌^◌, ◌<◌, ◌≤◌, Bool, true, false, List, ◌∷◌, length, codes, Some, ◌↔◌}
+use Rattle.std.specs.Prelude.{◌≡◌, ◌≢◌, ℕ, ◌-◌, ◌^◌, ◌<◌, ◌≤◌, Bool, true, false, List, ◌∷◌, length, codes, Some, None, ◌↔◌}
 use Rattle.fut_base.specs.declared.event.Event.{Event}
 use Rattle.fut_base.specs.Ports.{Rose}
 use Rattle.command_words.specs.declared.words.Command.{Command}
 use Rattle.command_words.specs.declared.words.Command.TheVariants as command
+use Rattle.command_words.specs.declared.options.Kind.TheVariants as kind
 use Rattle.command_words.specs.Asking.{AreOptions, AreWordsOf, most_bytes}
+use Rattle.fut_driver.specs.declared.form.Form.{Form}
 use Rattle.fut_driver.specs.declared.status.Status.{Status}
 use Rattle.fut_driver.specs.declared.status.Status.TheVariants as status
 use Rattle.fut_driver.specs.Given.{Asked, Asks}
-use Rattle.fut_driver.specs.Verdict.{IsVerdict}
+use Rattle.fut_driver.specs.Verdict.{AsksRun, IsVerdict}
 
 -- the source tells which bytes it has left, and its count of faults can rise
 pub record IsTold (a : Asked) (bytes : List ℕ) : Type 0 where
@@ -17,7 +19,7 @@ pub record IsTold (a : Asked) (bytes : List ℕ) : Type 0 where
 
 -- where the words ask for a run, it is one on one worker
 abbrev pub AsksOneWorker : Asked → Type 0
-AsksOneWorker a = (bound : ℕ) (brief : Bool) (workers : ℕ) → Asks a (command.Run bound brief workers) → workers ≡ 1
+AsksOneWorker a = (c : Command) (bound : ℕ) (due : Form) (workers : ℕ) → Asks a c → AsksRun c bound due workers → workers ≡ 1
 
 -- no two verdicts of one call hold, but for want of memory, and but for runs on several workers, which may differ
 abbrev pub OneVerdict : Type 0
@@ -71,5 +73,5 @@ CommandDecides = (a : Asked) (may_run : Bool) (words : List (List ℕ)) (c : Com
 -- `run` with one worker has the verdicts of `serial` with the same options
 abbrev pub RunIsSerial : Type 0
 RunIsSerial = (a : Asked) (options : List (List ℕ)) (bound : ℕ) (brief : Bool) (s : Status) (h : List Event) (text : List ℕ)
-    → a.words ≡ codes "serial" ∷ options → AreOptions false options bound brief 1
+    → a.words ≡ codes "serial" ∷ options → AreOptions kind.Serial options bound brief 1 None
     → IsVerdict a s h text ↔ IsVerdict (with_words a true (codes "run" ∷ (codes "--workers" ∷ (codes "1" ∷ options)))) s h text

@@ -2,6 +2,7 @@ pub mod Clean
 pub mod Due
 pub mod Given
 pub mod Laws
+pub mod Load
 pub mod Numbers
 pub mod Outcomes
 pub mod Process

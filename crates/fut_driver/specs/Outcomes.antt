@@ -1,5 +1,5 @@
--- What comes of the bytes that a command read.
-use Rattle.std.specs.Prelude.{◌≡◌, ◌≢◌, ℕ, ◌≤◌, Bool, false, List, [], ◌∷◌, length, Some, ℤ, ◌⊎◌}
+-- What comes of the bytes that a command works on.
+use Rattle.std.specs.Prelude.{◌≡◌, ◌≢◌, ℕ, ◌≤◌, List, [], ◌∷◌, length, Some, ℤ, ◌⊎◌}
 use Rattle.fut_base.specs.declared.event.Event.{Event}
 use Rattle.fut_base.specs.declared.record.Race.{Race}
 use Rattle.fut_base.specs.declared.record.Finish.{Finish}
@@ -13,12 +13,13 @@ use Rattle.fut_syntax.specs.Trees as tree
 use Rattle.fut_check.specs.Checks.{HasPlaces}
 use Rattle.task_machine.specs.Texts.{cell_arrays}
 use Rattle.run_record.specs.Records.{IsRunText}
+use Rattle.fut_driver.specs.declared.form.Form.{Form}
+use Rattle.fut_driver.specs.declared.form.Form.TheVariants as form
 use Rattle.fut_driver.specs.declared.status.Status.{Status}
 use Rattle.fut_driver.specs.declared.status.Status.TheVariants as status
 use Rattle.fut_driver.specs.declared.program.Refusal.{Refusal}
 use Rattle.fut_driver.specs.declared.program.Refusal.TheVariants as refusal
 use Rattle.command_words.specs.declared.words.Command.{Command}
-use Rattle.command_words.specs.declared.words.Command.TheVariants as command
 use Rattle.command_words.specs.Asking.{AreWorkers, IsBound}
 use Rattle.task_code.specs.Flat.{IsCodeOf}
 use Rattle.fut_base.specs.Events.{events_of}
@@ -32,7 +33,7 @@ use Rattle.fut_driver.specs.declared.outcome.Outcome.{Outcome}
 use Rattle.fut_driver.specs.declared.status.Ended.{Ended}
 use Rattle.fut_driver.specs.Given.{Asked, Told, Asks}
 use Rattle.fut_driver.specs.Due.{due_text, run_due}
-use Rattle.fut_driver.specs.Verdict.{IsRead, IsWellTypedText, EndsIn, IsIllTypedText, IsVerdict}
+use Rattle.fut_driver.specs.Verdict.{IsInput, AsksRun, IsWellTypedText, EndsIn, IsIllTypedText, IsVerdict}
 
 -- how a run ended that has these races
 abbrev pub ending_of : Finish → List Race → Status
@@ -64,14 +65,14 @@ status_of (refusal.IllTyped rule line column) = status.IllTyped rule line column
 status_of refusal.NoMemory = status.NoMemory
 
 -- a program was run, on so many workers, and this text was made of the run
-pub record RanAs (P : tree.Program) (workers bound : ℕ) (brief : Bool) (text : List ℕ) (s : Status) (h : List Event) (made : List ℕ) : Type 0 where
+pub record RanAs (P : tree.Program) (workers bound : ℕ) (due : Form) (text : List ℕ) (s : Status) (h : List Event) (made : List ℕ) : Type 0 where
   pub races : List Race
   pub end : Finish
   pub cells : List ℤ
   pub status : s ≡ ending_of end races
   pub ends : EndsIn P workers bound s end h races cells
-  pub text_is : made ≡ run_due brief text (cell_arrays P) h races end cells
-  pub recorded : brief ≡ false → IsRunText made text h races end
+  pub text_is : made ≡ run_due due text (cell_arrays P) h races end cells
+  pub recorded : due ≡ form.Record → IsRunText made text h races end
 
 -- a job is a run of this program on several workers
 pub record IsJob (P : tree.Program) (job : Job) : Type 0 where
@@ -82,21 +83,23 @@ pub record IsJob (P : tree.Program) (job : Job) : Type 0 where
   pub workers : AreWorkers job.workers
   pub several : job.workers ≢ 1
 
--- the words ask for this job, and its text is what was read
+-- the words ask for this job, and its text is what the command works on
 pub record IsAsked (a : Asked) (job : Job) : Type 0 where
-  pub words : Asks a (command.Run job.events job.brief job.workers)
-  pub read : IsRead a (command.Run job.events job.brief job.workers) job.text.items
+  pub command : Command
+  pub words : Asks a command
+  pub asked : AsksRun command job.events job.form job.workers
+  pub read : IsInput a command job.text.items
   pub job_is : (P : tree.Program) × IsJob P job
 
--- wherever a command read these bytes, this is a verdict
+-- wherever a command works on these bytes, this is a verdict
 abbrev pub IsOutcome : Command → List ℕ → Status → List Event → List ℕ → Type 0
-IsOutcome c bytes s h made = (a : Asked) → Asks a c → IsRead a c bytes → IsVerdict a s h (due_text s made)
+IsOutcome c bytes s h made = (a : Asked) → Asks a c → IsInput a c bytes → IsVerdict a s h (due_text s made)
 
--- what comes of the bytes that a command read: an outcome, or the job that the command asks for
+-- what comes of the bytes that a command works on: an outcome, or the job that the command asks for
 abbrev pub IsPrepared : Command → List ℕ → Prepared → Type 0
 IsPrepared c bytes (prepared.Done o) = IsOutcome c bytes o.status (events_of o.history) o.text.items
 IsPrepared c bytes (prepared.Due job) =
-    (c ≡ command.Run job.events job.brief job.workers) × (job.text.items ≡ bytes) × ((P : tree.Program) × IsJob P job)
+    AsksRun c job.events job.form job.workers × (job.text.items ≡ bytes) × ((P : tree.Program) × IsJob P job)
 
 -- what comes of a call: a verdict, or a job that the words ask for
 abbrev pub IsJudged : Asked → Prepared → Type 0

@@ -2,6 +2,9 @@
 use Rattle.std.specs.Prelude.{◌≡◌, ℕ, ◌+◌, ◌<◌, ◌≤◌, Bool, true, List, ◌++◌, length, Option}
 use Rattle.std.specs.Io.KnownBytes.{Consumes, Keeps, IsAtEnd}
 use Rattle.fut_base.specs.Ports.{Rose}
+use Rattle.command_words.specs.declared.words.Command.{Command}
+use Rattle.command_words.specs.Asking.{most_bytes}
+use Rattle.fut_driver.specs.Verdict.{Reads, IsTaken}
 use Rattle.fut_driver.specs.declared.input.Input.{Input}
 use Rattle.fut_driver.specs.declared.input.Input.TheVariants as input
 use Rattle.fut_driver.specs.declared.input.Step.{Step}
@@ -23,3 +26,13 @@ Adds most old new ended before now had has step.More =
 Adds most old new ended before now had has step.End = (has ≡ had) × Keeps old new × IsAtEnd new × (ended ≡ true) × (now ≡ before)
 Adds most old new ended before now had has step.Failed = (before ≤ now) × Rose before now
 Adds most old new ended before now had has step.NoMemory = now ≡ before
+
+-- what a command works on was found: all its bytes; or the source, of a command that reads, gave one byte too much, or failed; or there
+-- was no memory
+abbrev pub IsInputOf : Command → Option (List ℕ) → Option (List ℕ) → Bool → ℕ → ℕ → Input → Type 0
+IsInputOf c old new ended before now (input.Whole bytes) =
+    (length bytes.items ≤ most_bytes c) × IsTaken c old new ended bytes.items × (now ≡ before)
+IsInputOf c old new ended before now input.TooLong =
+    (bytes : List ℕ) × Reads c × (length bytes ≡ most_bytes c + 1) × Consumes old new bytes × (now ≡ before)
+IsInputOf c old new ended before now input.Failed = Reads c × (before ≤ now) × Rose before now
+IsInputOf c old new ended before now input.NoMemory = now ≡ before

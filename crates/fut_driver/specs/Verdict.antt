@@ -25,7 +25,10 @@ use Rattle.run_check.specs.Checks.{IsAccepted, IsRefusedAt}
 use Rattle.run_record.specs.Records.{IsRunText, IsFault}
 use Rattle.command_words.specs.Asking.{most_bytes}
 use Rattle.fut_driver.specs.Given.{Asked, Told, Asks}
-use Rattle.fut_driver.specs.Due.{syntax_text, type_text, legal_text, not_legal_text, not_run_text, run_due}
+use Rattle.fut_driver.specs.Due.{syntax_text, type_text, legal_text, not_legal_text, not_run_text, form_of, run_due}
+use Rattle.fut_driver.specs.Load.{load_text}
+use Rattle.fut_driver.specs.declared.form.Form.{Form}
+use Rattle.fut_driver.specs.declared.form.Form.TheVariants as form
 use Rattle.fut_driver.specs.declared.status.Status.{Status}
 use Rattle.fut_driver.specs.declared.status.Status.TheVariants as status
 use Rattle.command_words.specs.declared.words.Command.{Command}
@@ -33,12 +36,29 @@ use Rattle.command_words.specs.declared.words.Command.TheVariants as command
 
 -- ---- what was read
 
--- these are all bytes that the source had, as many as the command reads at most; a take answered the end, and none failed
-pub record IsRead (a : Asked) (c : Command) (bytes : List ℕ) : Type 0 where
+-- the command reads from the source
+abbrev pub Reads : Command → Type 0
+Reads command.Check = Unit {0}
+Reads command.Replay = Unit {0}
+Reads (command.Run events brief workers) = Unit {0}
+Reads (command.Load side events workers) = ⊥
+
+-- these are all bytes that the source had, and a take answered the end; what it had left before and afterwards is given
+abbrev pub IsAllOf : Option (List ℕ) → Option (List ℕ) → Bool → List ℕ → Type 0
+IsAllOf old new ended bytes = Consumes old new bytes × IsAtEnd new × (ended ≡ true)
+
+-- where the command works on these bytes, what became of the source: all of it was read; for `load` nothing, and the bytes are the
+-- text of its program
+abbrev pub IsTaken : Command → Option (List ℕ) → Option (List ℕ) → Bool → List ℕ → Type 0
+IsTaken command.Check old new ended bytes = IsAllOf old new ended bytes
+IsTaken command.Replay old new ended bytes = IsAllOf old new ended bytes
+IsTaken (command.Run events brief workers) old new ended bytes = IsAllOf old new ended bytes
+IsTaken (command.Load side events workers) old new ended bytes = (bytes ≡ load_text side) × (new ≡ old)
+
+-- the command works on these bytes, which are no more than it works on at most, and no take failed
+pub record IsInput (a : Asked) (c : Command) (bytes : List ℕ) : Type 0 where
   pub short : length bytes ≤ most_bytes c
-  pub taken : Consumes a.left_before a.left_after bytes
-  pub nothing_left : IsAtEnd a.left_after
-  pub ended : a.ended ≡ true
+  pub taken : IsTaken c a.left_before a.left_after a.ended bytes
   pub quiet : a.faults_after ≡ a.faults_before
 
 -- the source gave one byte more than the most that are read, and no take failed
@@ -107,30 +127,40 @@ pub record IsRecordOf (bytes : List ℕ) (P : tree.Program) (h : List Event) (ra
 abbrev pub IsGoodRecord : List ℕ → tree.Program → List Event → List Race → Finish → Type 0
 IsGoodRecord bytes P h races end = IsRecordOf bytes P h races end × IsAccepted P h races end
 
--- the words ask for a run, all the source's bytes were read, they are a program that breaks no type rule, its run ended
--- so, and the record of that run is due, which a replay accepts, or its brief text
+-- the command asks for a run of at most so many entries on so many workers, of which this text is due: of `load` the brief text
+-- with its sum
+abbrev pub AsksRun : Command → ℕ → Form → ℕ → Type 0
+AsksRun command.Check bound due workers = ⊥
+AsksRun command.Replay bound due workers = ⊥
+AsksRun (command.Run events brief crew) bound due workers = (events ≡ bound) × (form_of brief ≡ due) × (crew ≡ workers)
+AsksRun (command.Load side events crew) bound due workers = (events ≡ bound) × (form.Summed ≡ due) × (crew ≡ workers)
+
+-- the words ask for a run, the bytes that the command works on are a program that breaks no type rule, its run ended so, and the
+-- record of that run is due, which a replay accepts, or its brief text
 pub record IsOfRun (a : Asked) (s : Status) (h : List Event) (text : List ℕ) : Type 0 where
+  pub command : Command
+  pub words : Asks a command
   pub bound : ℕ
-  pub brief : Bool
+  pub due : Form
   pub workers : ℕ
-  pub words : Asks a (command.Run bound brief workers)
+  pub asked : AsksRun command bound due workers
   pub bytes : List ℕ
-  pub read : IsRead a (command.Run bound brief workers) bytes
+  pub read : IsInput a command bytes
   pub tree : tree.Program
   pub program : IsWellTypedText bytes tree
   pub races : List Race
   pub end : Finish
   pub cells : List ℤ
   pub ends : EndsIn tree workers bound s end h races cells
-  pub is_due : text ≡ run_due brief bytes (cell_arrays tree) h races end cells
-  pub replayed : brief ≡ false → IsGoodRecord text tree h races end
+  pub is_due : text ≡ run_due due bytes (cell_arrays tree) h races end cells
+  pub replayed : due ≡ form.Record → IsGoodRecord text tree h races end
 
 -- the words ask for a replay, all the source's bytes were read, they are the record of a program with this history, it is
 -- accepted, the status says how it ended, and the line with its counts is due
 pub record IsOfRecord (a : Asked) (s : Status) (h : List Event) (text : List ℕ) : Type 0 where
   pub words : Asks a command.Replay
   pub bytes : List ℕ
-  pub read : IsRead a command.Replay bytes
+  pub read : IsInput a command.Replay bytes
   pub tree : tree.Program
   pub races : List Race
   pub end : Finish
@@ -147,14 +177,15 @@ abbrev pub IsGiven : Command → List ℕ → List ℕ → Type 0
 IsGiven command.Replay bytes program = (h : List Event) × (races : List Race) × (end : Finish) × IsRunText bytes program h races end
 IsGiven command.Check bytes program = program ≡ bytes
 IsGiven (command.Run bound brief workers) bytes program = program ≡ bytes
+IsGiven (command.Load side bound workers) bytes program = program ≡ bytes
 
--- the words ask for this command, no run was made, and this is due; all the source's bytes were read, and this holds of them
+-- the words ask for this command, no run was made, and this is due; this holds of the bytes that the command works on
 pub record IsOfBytes (a : Asked) (c : Command) (h : List Event) (text due : List ℕ) (Holds : List ℕ → Type 0) : Type 0 where
   pub words : Asks a c
   pub no_run : h ≡ []
   pub is_due : text ≡ due
   pub bytes : List ℕ
-  pub read : IsRead a c bytes
+  pub read : IsInput a c bytes
   pub holds : Holds bytes
 
 -- the same of some command, and it holds of the program text that the command finds in the bytes
@@ -189,11 +220,11 @@ IsVerdict a (status.NotLegal entry) h text =
     IsOfBytes a command.Replay h text (not_legal_text entry) (λ bytes. IsRefusedRecord bytes entry)
 -- the bytes are no run text
 IsVerdict a (status.NotRun byte) h text = IsOfBytes a command.Replay h text (not_run_text byte) (λ bytes. IsFault bytes byte)
--- the source gave one byte more than the command reads
-IsVerdict a status.TooLong h text = ((c : Command) × Asks a c × GaveTooMuch a (most_bytes c)) × (h ≡ []) × (text ≡ codes "too long\n")
--- a take failed
+-- the command reads, and the source gave one byte more than it does
+IsVerdict a status.TooLong h text = ((c : Command) × Asks a c × Reads c × GaveTooMuch a (most_bytes c)) × (h ≡ []) × (text ≡ codes "too long\n")
+-- the command reads, and a take failed
 IsVerdict a status.ReadFault h text =
-    ((c : Command) × Asks a c) × (h ≡ []) × (text ≡ codes "read fault\n") × (a.faults_before ≤ a.faults_after) × Rose a.faults_before a.faults_after
+    ((c : Command) × Asks a c × Reads c) × (h ≡ []) × (text ≡ codes "read fault\n") × (a.faults_before ≤ a.faults_after) × Rose a.faults_before a.faults_after
 -- no reason is due for want of memory
 IsVerdict a status.NoMemory h text = (h ≡ []) × (text ≡ codes "no memory\n") × (a.faults_after ≡ a.faults_before)
 -- the words have another form; nothing is read
@@ -225,7 +256,7 @@ IsAnswer a t s h = IsAnswered a t s h
 
 -- the words ask for a run, or for a replay
 abbrev pub AsksHistory : Asked → Type 0
-AsksHistory a = ((bound : ℕ) × (brief : Bool) × (workers : ℕ) × Asks a (command.Run bound brief workers)) ⊎ Asks a command.Replay
+AsksHistory a = ((c : Command) × (bound : ℕ) × (due : Form) × (workers : ℕ) × Asks a c × AsksRun c bound due workers) ⊎ Asks a command.Replay
 
 -- the answers to what nothing hinders
 abbrev pub IsFree : Asked → Status → Type 0
@@ -240,8 +271,16 @@ IsFree a _ = ⊥
 abbrev pub IsFit : Command → List ℕ → Type 0
 IsFit command.Check bytes = (P : tree.Program) × IsWellTypedText bytes P
 IsFit (command.Run bound brief workers) bytes = (P : tree.Program) × IsWellTypedText bytes P
+IsFit (command.Load side bound workers) bytes = (P : tree.Program) × IsWellTypedText bytes P
 IsFit command.Replay bytes =
     (P : tree.Program) × (h : List Event) × (races : List Race) × (end : Finish) × IsGoodRecord bytes P h races end
+
+-- the source tells that it has left these bytes; for `load` they are the text of its program, whatever the source has
+abbrev pub IsLeft : Command → Option (List ℕ) → List ℕ → Type 0
+IsLeft command.Check left bytes = left ≡ Some bytes
+IsLeft command.Replay left bytes = left ≡ Some bytes
+IsLeft (command.Run events brief workers) left bytes = left ≡ Some bytes
+IsLeft (command.Load side events workers) left bytes = bytes ≡ load_text side
 
 -- the words ask for a command, the source tells that it has left what the command reads, a program text of at most 1,048,576
 -- bytes or a record of at most 67,108,864, and no count of faults rose
@@ -249,7 +288,7 @@ pub record IsUnhindered (a : Asked) (t : Told) : Type 0 where
   pub command : Command
   pub words : Asks a command
   pub bytes : List ℕ
-  pub left : a.left_before ≡ Some bytes
+  pub left : IsLeft command a.left_before bytes
   pub short : length bytes ≤ most_bytes command
   pub fit : IsFit command bytes
   pub source_quiet : Rose a.faults_before a.faults_after → ⊥

@@ -8,6 +8,7 @@ ghost use Rattle.fut_driver.specs.Due.{due_text};
 ghost use Rattle.fut_driver.specs.Outcomes.{IsJob, IsAsked, RanAs};
 ghost use Rattle.fut_driver.specs.declared.status.Status.TheVariants as status;
 
+use crate::form::Form;
 use crate::outcome::Outcome;
 use crate::run::{limits, outcome_of_run};
 use crate::status::Status;
@@ -28,13 +29,13 @@ pub enum Prepared {
     Due(Job),
 }
 
-/// A run on several workers: of this code of this program text, up to so many entries, of which the record or the brief text is due.
+/// A run on several workers: of this code of this program text, up to so many entries, of which this text is due.
 #[derive(Drop)]
 pub struct Job {
     pub text: Vec<u8>,
     pub code: Code,
     pub events: u32,
-    pub brief: bool,
+    pub form: Form,
     pub workers: u32,
 }
 
@@ -63,7 +64,7 @@ fn run_job<R: Threads + Wait + Sync, G: Gate + Sync>(
     gate: &G,
 ) -> Result<Outcome, NoMemory>
     requires { (P : tree.Program) × IsJob P job.now }
-    ensures { IfOk result (λ o. (P : tree.Program) → IsJob P job.now → RanAs P job.now.workers job.now.events job.now.brief job.now.text.items o.status (events_of o.history) o.text.items) }
+    ensures { IfOk result (λ o. (P : tree.Program) → IsJob P job.now → RanAs P job.now.workers job.now.events job.now.form job.now.text.items o.status (events_of o.history) o.text.items) }
 {
     let options = Options {
         workers: job.workers,
@@ -76,6 +77,6 @@ fn run_job<R: Threads + Wait + Sync, G: Gate + Sync>(
         &job.code,
         ran,
         job.events,
-        job.brief,
+        job.form,
     )
 }

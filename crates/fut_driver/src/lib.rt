@@ -7,12 +7,14 @@
 #![tactic(auto)]
 
 pub mod clean;
+mod form;
 mod gathered;
 mod input;
 mod job;
 mod judge;
 pub mod laws;
 pub mod line;
+pub mod load;
 mod outcome;
 pub mod process;
 mod program;

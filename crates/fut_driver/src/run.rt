@@ -9,11 +9,13 @@ ghost use Rattle.fut_check.specs.Items.{IsWellTyped};
 ghost use Rattle.command_words.specs.Asking.{AreWorkers, IsBound};
 ghost use Rattle.run_replay.specs.Serials.{IsSerialRun};
 ghost use Rattle.fut_engine.specs.Runs.{IsRun};
-ghost use Rattle.fut_driver.specs.Verdict.{limits_of};
+ghost use Rattle.fut_driver.specs.Verdict.{AsksRun, limits_of};
 ghost use Rattle.fut_driver.specs.Due.{run_due};
 ghost use Rattle.fut_driver.specs.Outcomes.{IsOutcome, IsPrepared, RanAs};
+ghost use Rattle.command_words.specs.declared.words.Command.{Command};
 ghost use Rattle.command_words.specs.declared.words.Command.TheVariants as command;
 
+use crate::form::Form;
 use crate::gathered::Gathered;
 use crate::job::{Job, Prepared};
 use crate::outcome::{Outcome, ending};
@@ -48,11 +50,11 @@ pub fn check_text(alloc: Global, text: &[u8]) -> Outcome
 }
 
 /// What comes of a program text that is to be run up to a number of entries: on one worker its serial run, on more a run that is due.
-pub fn run_text(alloc: Global, text: Vec<u8>, events: u32, brief: bool, workers: u32) -> Prepared
+pub fn run_text(alloc: Global, text: Vec<u8>, events: u32, form: Form, workers: u32) -> Prepared
     requires short { length text.items ≤ MOST_PROGRAM_BYTES }
     requires bounded { IsBound events }
     requires workers { AreWorkers workers }
-    ensures { IsPrepared (command.Run events brief workers) text.items result }
+    ensures { (c : Command) → AsksRun c events form workers → IsPrepared c text.items result }
 {
     let code = match code_for(alloc, text.as_slice()) {
         Ok(code) => code,
@@ -63,11 +65,11 @@ pub fn run_text(alloc: Global, text: Vec<u8>, events: u32, brief: bool, workers:
             text,
             code,
             events,
-            brief,
+            form,
             workers,
         });
     }
-    match run_code(alloc, text.as_slice(), &code, events, brief) {
+    match run_code(alloc, text.as_slice(), &code, events, form) {
         Ok(outcome) => Prepared::Done(outcome),
         Err(NoMemory) => Prepared::Done(Outcome::bare(alloc, Status::NoMemory)),
     }
@@ -90,15 +92,15 @@ fn run_code(
     text: &[u8],
     code: &Code,
     events: u32,
-    brief: bool,
+    form: Form,
 ) -> Result<Outcome, NoMemory>
     requires short { length text.now ≤ MOST_PROGRAM_BYTES }
     requires program { (P : tree.Program) × IsWellTyped P × IsCodeOf P code.now }
     requires bounded { IsBound events }
-    ensures { IfOk result (λ o. (P : tree.Program) → IsWellTyped P → IsCodeOf P code.now → RanAs P 1 events brief text.now o.status (events_of o.history) o.text.items) }
+    ensures { IfOk result (λ o. (P : tree.Program) → IsWellTyped P → IsCodeOf P code.now → RanAs P 1 events form text.now o.status (events_of o.history) o.text.items) }
 {
     let ran = serial(alloc, code, limits(events))?;
-    let outcome = outcome_of_run(alloc, text, code, ran, events, brief)?;
+    let outcome = outcome_of_run(alloc, text, code, ran, events, form)?;
     Ok(outcome)
 }
 
@@ -109,7 +111,7 @@ pub fn outcome_of_run(
     code: &Code,
     ran: Ran,
     events: u32,
-    brief: bool,
+    form: Form,
 ) -> Result<Outcome, NoMemory>
     requires short { length text.now ≤ MOST_PROGRAM_BYTES }
     requires bounded { IsBound events }
@@ -117,11 +119,11 @@ pub fn outcome_of_run(
     ensures { IfOk result (λ o. (P : tree.Program) (workers : ℕ) → IsWellTyped P → IsCodeOf P code.now
         → IsRun P (limits_of events) (events_of ran.history) ran.finish ran.cells.items
         → (workers ≡ 1 → IsSerialRun P (limits_of events) (events_of ran.history) ran.finish ran.cells.items)
-        → RanAs P workers events brief text.now o.status (events_of o.history) o.text.items) }
+        → RanAs P workers events form text.now o.status (events_of o.history) o.text.items) }
 {
     history_has_bounds(&ran.history);
     finish_has_bounds(ran.finish);
-    let made = made(alloc, text, code, &ran, brief)?;
+    let made = made(alloc, text, code, &ran, form)?;
     Ok(Outcome {
         status: ending(ran.finish, &ran.races),
         history: ran.history,
@@ -129,21 +131,15 @@ pub fn outcome_of_run(
     })
 }
 
-/// The record of a run, or its brief text.
-fn made(
-    alloc: Global,
-    text: &[u8],
-    code: &Code,
-    ran: &Ran,
-    brief: bool,
-) -> Result<Vec<u8>, NoMemory>
-    ensures { IfOk result (λ t. t.items ≡ run_due brief text.now code.now.arrays (events_of ran.now.history) ran.now.races.items ran.now.finish ran.now.cells.items) }
+/// The text of a run that is due.
+fn made(alloc: Global, text: &[u8], code: &Code, ran: &Ran, form: Form) -> Result<Vec<u8>, NoMemory>
+    ensures { IfOk result (λ t. t.items ≡ run_due form text.now code.now.arrays (events_of ran.now.history) ran.now.races.items ran.now.finish ran.now.cells.items) }
 {
     let mut made = Gathered::make(alloc);
-    let wrote = if brief {
-        write_brief(&mut made, code, ran, false)
-    } else {
-        write_run(&mut made, text, &ran.history, &ran.races, ran.finish)
+    let wrote = match form {
+        Form::Record => write_run(&mut made, text, &ran.history, &ran.races, ran.finish),
+        Form::Brief => write_brief(&mut made, code, ran, false),
+        Form::Summed => write_brief(&mut made, code, ran, true),
     };
     match wrote {
         Wrote::All => Ok(made.bytes),

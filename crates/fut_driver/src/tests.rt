@@ -2,6 +2,7 @@
 mod forms;
 mod guide;
 mod lengths;
+mod loads;
 mod process;
 mod records;
 mod replays;

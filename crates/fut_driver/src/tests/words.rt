@@ -11,7 +11,7 @@ use std::test::Fail;
 #[test]
 fn other_words_read_nothing(rt: HostRuntime) -> Result<(), Fail> {
     let usage = "usage: forder run, serial, replay, check or load\n";
-    let cases: [&[&str]; 35] = [
+    let cases: [&[&str]; 49] = [
         &[],
         &[""],
         &["help"],
@@ -23,7 +23,21 @@ fn other_words_read_nothing(rt: HostRuntime) -> Result<(), Fail> {
         &["serial", "--"],
         &["serial", "serial"],
         &["Serial"],
-        &["load", "1"],
+        &["load"],
+        &["load", "0"],
+        &["load", "65"],
+        &["load", "08"],
+        &["load", "+8"],
+        &["load", "eight"],
+        &["load", "8", "8"],
+        &["load", "8", "--brief"],
+        &["load", "8", "--workers"],
+        &["load", "8", "--workers", "65"],
+        &["load", "8", "--workers=4"],
+        &["load", "--workers", "8"],
+        &["load", "--events", "0", "8"],
+        &["load", "--events", "8", "--events", "8", "8"],
+        &["load", "--", "8"],
         &["help", "serial"],
         &["run", "--workers"],
         &["run", "--workers", "0"],
@@ -125,13 +139,17 @@ fn a_sink_that_fails(rt: HostRuntime) -> Result<(), Fail> {
 #[test]
 fn plain_makes_no_runs_on_workers(rt: HostRuntime) -> Result<(), Fail> {
     let alloc = rt.alloc();
-    for (word, status) in [
-        ("check", Status::Accepted),
-        ("serial", Status::Clean),
-        ("run", Status::Usage),
-    ] {
+    let cases: [(&[&str], Status); 4] = [
+        (&["check"], Status::Accepted),
+        (&["serial"], Status::Clean),
+        (&["run"], Status::Usage),
+        (&["load", "8"], Status::Usage),
+    ];
+    for (asked, status) in cases {
         let mut words = Words::make(alloc);
-        words.push(word)?;
+        for word in asked {
+            words.push(word)?;
+        }
         let mut source = MemSource::make(alloc, b"task main() int { return 0; }", 16, &[])?;
         let mut out = MemSink::make(alloc, 1000, 16, &[])?;
         let answer = plain(alloc, &words, &mut source, &mut out);

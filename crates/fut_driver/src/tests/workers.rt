@@ -32,7 +32,7 @@ const THOUSANDS: &str =
     "cells a[5000];\ntask kid(i: int) int { a[i] = i; return 0; }\ntask main() int { var i: int; while i < 5000 { spawn kid(i); i = i + 1; } sync; return 0; }\n";
 
 /// A grid of futures, of which one forgets to get the one above it.
-const FORGOTTEN: &str =
+pub const FORGOTTEN: &str =
     "cells a[64];\ntask corner() int { a[0] = 1; return 0; }\ntask top(j: int, left: fut int) int {\n  var g: int = get left;\n  var q: int = a[j - 1];\n  a[j] = q + 1;\n  return 0;\n}\ntask side(i: int, up: fut int) int {\n  var g: int = get up;\n  var p: int = a[(i - 1) * 8];\n  a[i * 8] = p + 1;\n  return 0;\n}\ntask inner(i: int, j: int, up: fut int, left: fut int) int {\n  var g: int; if ((i * 8) + j) != 36 { g = get up; }\n  g = get left;\n  var p: int = a[((i - 1) * 8) + j];\n  var q: int = a[(i * 8) + (j - 1)];\n  a[(i * 8) + j] = (p + q) + 1;\n  return 0;\n}\ntask main() int {\n  var h: fut int = create corner();\n  var row: fut int[8] = h;\n  var up: fut int = h;\n  var i: int = 1;\n  var j: int = 1;\n  while j < 8 { h = create top(j, h); row[j] = h; j = j + 1; }\n  while i < 8 {\n    up = row[0];\n    h = create side(i, up);\n    row[0] = h;\n    j = 1;\n    while j < 8 {\n      up = row[j];\n      h = create inner(i, j, up, h);\n      row[j] = h;\n      j = j + 1;\n    }\n    i = i + 1;\n  }\n  var x: int = get h;\n  return x;\n}\n";
 
 /// A run on so many workers ends so, and a replay of its record says the same.

@@ -17,14 +17,14 @@ loop-rest-init c = record { done = []; written = refl; allowed = tt; seen_is = s
 pub returns-in_err-choice : goal.returns-in_err-choice
 returns-in_err-choice c =
     let some = some_left string_bytes c.loop-rest.rest.now (not_zero _ c.loop-rest-test.ensures) in
-    rw c.from_residual.ensures (none_begins c.args.workers _ _ c.loop-rest.seen c.loop-rest.invariant some c.in_err-choice.ensures)
+    rw c.from_residual.ensures (none_begins c.args.kind _ _ c.loop-rest.seen c.loop-rest.invariant some c.in_err-choice.ensures)
 
 pub returns-in_err-seen : goal.returns-in_err-seen
 returns-in_err-seen c =
     let kept = c.loop-rest.invariant in
     let first = c.in_ok-choice.ensures in
     rw c.from_residual-in_err-seen.ensures
-    (doubled c.args.workers _ _ _ c.loop-rest.seen c.in_ok-choice.choice kept first.1 first.0 (c.in_err-seen.ensures _ kept.done kept.seen_is))
+    (doubled c.args.kind _ _ _ c.loop-rest.seen c.in_ok-choice.choice kept first.1 first.0 (c.in_err-seen.ensures _ kept.done kept.seen_is))
 
 pub loop-rest-smaller : goal.loop-rest-smaller
 loop-rest-smaller c = shorter string_bytes c.in_ok-choice.choice c.loop-rest.rest.now c.in_ok-choice.more.now c.in_ok-choice.ensures.1
@@ -33,9 +33,9 @@ pub loop-rest-preserved : goal.loop-rest-preserved
 loop-rest-preserved c =
     let kept = c.loop-rest.invariant in
     let first = c.in_ok-choice.ensures in
-    one_more c.args.workers _ _ _ c.loop-rest.seen c.in_ok-seen.seen c.in_ok-choice.choice kept first.1 first.0 (c.in_ok-seen.ensures _ kept.done kept.seen_is)
+    one_more c.args.kind _ _ _ c.loop-rest.seen c.in_ok-seen.seen c.in_ok-choice.choice kept first.1 first.0 (c.in_ok-seen.ensures _ kept.done kept.seen_is)
 
 pub returns : goal.returns
 returns c =
     let none = none_left string_bytes c.loop-rest.rest.now (is_zero _ c.loop-rest-test.ensures) in
-    all_read c.args.workers _ _ c.loop-rest.seen c.loop-rest.invariant none
+    all_read c.args.kind _ _ c.loop-rest.seen c.loop-rest.invariant none

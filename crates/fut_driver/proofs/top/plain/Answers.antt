@@ -5,7 +5,7 @@ pub unreachable-requires : goal.unreachable-requires
 unreachable-requires g c =
     let asked = c.in-Due.ensures.judged in
     let job = c.in-Due.field-0 in
-    no_job c.args.words.now job.events job.brief job.workers asked.words asked.job_is.1.several
+    no_job c.args.words.now asked.command job.events job.form job.workers asked.words asked.asked asked.job_is.1.several
 
 pub returns-clause-complete : goal.returns-clause-complete
 returns-clause-complete g c = ending_is_free _ _ c.in-Done.outcome c.told.result c.in-Done.ensures.judged c.told.ensures
