@@ -218,3 +218,67 @@ fn first_tasks_are_named(rt: HostRuntime) -> Result<(), Fail> {
     }
     Ok(())
 }
+
+/// Three children write a cell and end with 2, while `main` waits for them.
+const THREE: &str =
+    "cells a[1]; task kid() int { a[0] = 1; return 2; } task main() int { spawn kid(); spawn kid(); spawn kid(); sync; return 0; }";
+
+/// A legal run of it in which the second child ends first, so a task inside the order of those that have not ended leaves it.
+fn second_ends_first(alloc: Global) -> [Entry; 11] {
+    let spawn = |child, kid, cont| Act::Spawn {
+        code: 0,
+        child,
+        kid,
+        cont,
+        args: Listing::make(alloc),
+    };
+    let write = || Act::Write { cell: 0, value: 1 };
+    let end = |value| Act::End {
+        value: Value::Int(value),
+    };
+    let at = |task, strand, act| Entry { task, strand, act };
+    [
+        at(0, 0, spawn(1, 1, 2)),
+        at(0, 2, spawn(2, 3, 4)),
+        at(0, 4, spawn(3, 5, 6)),
+        at(2, 3, write()),
+        at(2, 3, end(2)),
+        at(1, 1, write()),
+        at(1, 1, end(2)),
+        at(3, 5, write()),
+        at(3, 5, end(2)),
+        at(0, 6, Act::Sync { strand: 7 }),
+        at(0, 7, end(0)),
+    ]
+}
+
+#[test]
+fn tasks_leave_the_order(rt: HostRuntime) -> Result<(), Fail> {
+    let alloc = rt.alloc();
+    let text = THREE.as_bytes();
+    assert!(rt; text.len() < 8192);
+    let code = code_of(alloc, text)?;
+    let entries = second_ends_first(alloc);
+    let firsts = [
+        Some(0),
+        Some(1),
+        Some(1),
+        Some(1),
+        Some(1),
+        Some(1),
+        Some(1),
+        Some(3),
+        Some(3),
+        Some(0),
+        Some(0),
+        None,
+    ];
+    for count in 0..12 {
+        assert_eq!(rt;
+            first_task(alloc, &code, &entries, count)?,
+            firsts[count],
+            "{count}"
+        );
+    }
+    Ok(())
+}
