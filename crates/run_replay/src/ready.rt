@@ -46,7 +46,8 @@ impl Ring {
         ensures place { OnOk result (HasPlace self.new) }
     {
         self.nexts.reserve(1)?;
-        self.prevs.reserve(1)
+        self.prevs.reserve(1)?;
+        Ok(())
     }
 
     /// Puts a child, which has the next number, before its maker.
