@@ -3,6 +3,7 @@ pub mod Next
 pub mod Keeping
 pub mod Looking
 pub mod Rising
+pub mod Runs
 pub mod Logging
 pub mod Greatest
 pub mod Growing
