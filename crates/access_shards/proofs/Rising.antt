@@ -20,7 +20,7 @@ use Rattle.access_shards.specs.Touches.{Touch, IsRising, IsLate}
 use Rattle.access_shards.specs.Kept.{Kind, IsInOrder, AreReaders}
 use Rattle.access_shards.specs.Finding.{AreThoseApart}
 use Rattle.access_shards.specs.Logged.{StandsFirst, RiseInEnglish}
-use Rattle.access_shards.specs.Reading.{IsNotAfter, AreUnjoined}
+use Rattle.access_shards.specs.Reading.{IsNotAfter, AreApart, AreUnjoined}
 use Rattle.std.proofs.lemmas.Bool.{and_from}
 use Rattle.access_shards.proofs.Enough.{one_at}
 use Rattle.access_shards.proofs.Keeping.{in_order_last}
@@ -150,6 +150,14 @@ rise_on s new old left rising none_after those before a b ha hb lt = elim (among
       ])
   | inr (inr n) ↦ absurd n
 ]
+
+-- no path leads from a kept read to a later one
+pub readers_apart : (s : List Event) (past : List (Touch Kind)) (readers : List Access) → AreReaders s past readers → AreApart s readers
+readers_apart s past readers r a b ha hb lt path =
+    let x = r.each a ha in
+    let y = r.each b hb in
+    x.1.latest y.0 y.1.there y.1.kind_is (omega (arith, lt, x.2.place_is, y.2.place_is))
+    (inl (subst (λ n. ReachesBy (edges_of s) n y.0.strand) x.2.number_is (subst (λ n. ReachesBy (edges_of s) a.strand.number n) y.2.number_is path)))
 
 -- no path leads from a kept read to another strand of one
 pub readers_unjoined : (s : List Event) (past : List (Touch Kind)) (readers : List Access) → IsRising past → IsLate (edges_of s) past → AreReaders s past readers

@@ -53,12 +53,19 @@ of_drop a [] (suc n) h = absurd h
 of_drop a (x ∷ xs) zero h = let k = index_of a (x ∷ xs) h in (k.0, omega arith, k.1, k.2)
 of_drop a (x ∷ xs) (suc n) h = let k = of_drop a xs n h in (suc k.0, omega (arith, k.1), omega (arith, k.2), k.3)
 
+pub differ_at : (s : List Event) (xs : List Access) → IsInEnglish s xs → (i j : ℕ) → i < j → j < length xs
+    → (access_at xs i).strand.number ≡ (access_at xs j).strand.number → ⊥
+differ_at s [] h i j lt le = absurd (omega arith)
+differ_at s (x ∷ xs) h i zero lt le = absurd (omega arith)
+differ_at s (x ∷ xs) h zero (suc j) lt le = (h.0 (access_at xs j) (at_place xs j no_access (omega arith))).1
+differ_at s (x ∷ xs) h (suc i) (suc j) lt le = differ_at s xs h.1 i j (omega arith) (omega arith)
+
 -- of two places in a list in the English order the first has the strand that stands before
 pub in_english_at : (s : List Event) (xs : List Access) → IsInEnglish s xs → (i j : ℕ) → i < j → j < length xs
     → StandsFirst s (access_at xs i).strand (access_at xs j).strand
 in_english_at s [] h i j lt le = absurd (omega arith)
 in_english_at s (x ∷ xs) h i zero lt le = absurd (omega arith)
-in_english_at s (x ∷ xs) h zero (suc j) lt le = h.0 (access_at xs j) (at_place xs j no_access (omega arith))
+in_english_at s (x ∷ xs) h zero (suc j) lt le = (h.0 (access_at xs j) (at_place xs j no_access (omega arith))).0
 in_english_at s (x ∷ xs) h (suc i) (suc j) lt le = in_english_at s xs h.1 i j (omega arith) (omega arith)
 
 pub in_english_take : (s : List Event) (n : ℕ) (xs : List Access) → IsInEnglish s xs → IsInEnglish s (take n xs)
@@ -75,7 +82,7 @@ in_english_drop s (suc n) (x ∷ xs) h = in_english_drop s n xs h.1
 
 -- one list in the English order before another one
 pub in_english_both : (s : List Event) (xs ys : List Access) → IsInEnglish s xs → IsInEnglish s ys
-    → ((a b : Access) → Among a xs → Among b ys → StandsFirst s a.strand b.strand) → IsInEnglish s (xs ++ ys)
+    → ((a b : Access) → Among a xs → Among b ys → StandsFirst s a.strand b.strand × (a.strand.number ≡ b.strand.number → ⊥)) → IsInEnglish s (xs ++ ys)
 in_english_both s [] ys h k across = k
 in_english_both s (x ∷ xs) ys h k across = (
   (λ b m. elim (among_or b xs ys m) [ inl l ↦ h.0 b l | inr r ↦ across x b (inl refl) r ]),

@@ -44,10 +44,10 @@ pub record StandsFirst (s : List Event) (u v : Strand) : Type 0 where
 abbrev pub RiseInEnglish : List Event → List Access → Type 0
 RiseInEnglish s all = (a b : Access) → Among a all → Among b all → a.place < b.place → StandsFirst s a.strand b.strand
 
--- accesses are on strands of one future, which stand in the English order as they do in the list
+-- accesses are on different strands of one future, which stand in the English order as they do in the list
 abbrev pub IsInEnglish : List Event → List Access → Type 0
 IsInEnglish s [] = Unit {0}
-IsInEnglish s (a ∷ rest) = ((b : Access) → Among b rest → StandsFirst s a.strand b.strand) × IsInEnglish s rest
+IsInEnglish s (a ∷ rest) = ((b : Access) → Among b rest → StandsFirst s a.strand b.strand × (a.strand.number ≡ b.strand.number → ⊥)) × IsInEnglish s rest
 
 -- a list is empty, or has these accesses, in the English order of one future
 pub record AreSorted (s : List Event) (all sorted : List Access) : Type 0 where

@@ -24,6 +24,10 @@ pub record ComesAfter (english : List ℕ) (at : Strand) (l : Logged) : Type 0 w
   pub rise_is : l.rise ≡ true
   pub last : EndsBefore english at (reads_of l.kept)
 
+-- no path leads from an access to a later one
+abbrev pub AreApart : List Event → List Access → Type 0
+AreApart s all = (a b : Access) → Among a all → Among b all → a.place < b.place → ReachesBy (edges_of s) a.strand.number b.strand.number → ⊥
+
 -- no path leads from an access to another strand of these
 abbrev pub AreUnjoined : List Event → List Access → Type 0
 AreUnjoined s all = (a b : Access) → Among a all → Among b all → (a.strand.number ≡ b.strand.number → ⊥)
@@ -33,6 +37,7 @@ AreUnjoined s all = (a b : Access) → Among a all → Among b all → (a.strand
 -- where there is such a list
 pub record AreReads (s : List Event) (all : List Access) (rise : Bool) (sorted : List Access) : Type 0 where
   pub of : AreOf s all
+  pub apart : AreApart s all
   pub unjoined : AreUnjoined s all
   pub rising : rise ≡ true → RiseInEnglish s all
   pub listed : AreSorted s all sorted

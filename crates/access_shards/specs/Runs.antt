@@ -1,5 +1,5 @@
 -- Of accesses in the English order of one future, those from which a strand is reached.
-use Rattle.std.specs.Prelude.{◌≡◌, ℕ, ◌+◌, ◌-◌, ◌<◌, ◌≤◌, true, List, ◌⊎◌, length, get_or}
+use Rattle.std.specs.Prelude.{◌≡◌, ℕ, ◌+◌, ◌-◌, ◌<◌, ◌≤◌, Bool, true, List, ◌⊎◌, length, get_or}
 use Rattle.fut_base.specs.Dag.{Among}
 use Rattle.fut_base.specs.Orders.{stands_before}
 use Rattle.reach_table.specs.Telling.{IsOrPrecedes}
@@ -24,6 +24,10 @@ pub record IsParted (place : ℕ) (all : List Access) (n : ℕ) : Type 0 where
 pub record IsRow (readers row : List Access) : Type 0 where
   pub order : IsInOrder readers
   pub each : (a : Access) → Among a row → Among a readers
+
+-- a list of reads is their own one, or, where it is said to be another one, is one of some of them
+abbrev pub MayBeRow : Bool → List Access → List Access → Type 0
+MayBeRow listed readers row = listed ≡ true → IsRow readers row
 
 -- an access is on the strand `at`, or stands before it in a list
 abbrev pub IsUpTo : List ℕ → Strand → Access → Type 0
@@ -54,9 +58,9 @@ pub record IsSpan (english hebrew : List ℕ) (at : Strand) (row : List Access) 
   pub last : 0 < span.low → IsUpTo english at (access_at row (span.low - 1))
   pub right : span.high < length row → IsUpTo english at (access_at row span.high) → ⊥
 
-pub record Spans (english hebrew : List ℕ) (at : Strand) (readers row : List Access) (span : Span) : Type 0 where
+pub record Spans (english hebrew : List ℕ) (at : Strand) (listed : Bool) (readers row : List Access) (span : Span) : Type 0 where
   pub bounds : AreBounds (length row) span
-  pub is : IsRow readers row → IsSpan english hebrew at row span
+  pub is : MayBeRow listed readers row → IsSpan english hebrew at row span
 
 -- a span is narrowed at a place: the place is its new high place, or before its new low one; and it has one access less
 -- that was not looked at
@@ -71,9 +75,9 @@ pub record Narrows (span : Span) (middle : ℕ) (stand : Stand) (next : Span) : 
   pub is : (english hebrew : List ℕ) (at : Strand) (row : List Access) → AreBounds (length row) span → span.low ≤ middle → middle < span.high
       → IsSpan english hebrew at row span → TellsStand english hebrew at (access_at row middle) stand → IsSpan english hebrew at row next
 
-pub record LooksAt (english hebrew : List ℕ) (at : Strand) (readers row : List Access) (span : Span) (middle : ℕ) (next : Span) : Type 0 where
+pub record LooksAt (english hebrew : List ℕ) (at : Strand) (listed : Bool) (readers row : List Access) (span : Span) (middle : ℕ) (next : Span) : Type 0 where
   pub narrower : IsNarrower (length row) span middle next
-  pub is : IsRow readers row → IsSpan english hebrew at row span → IsSpan english hebrew at row next
+  pub is : MayBeRow listed readers row → IsSpan english hebrew at row span → IsSpan english hebrew at row next
 
 -- the accesses of a run, and no others, are reaching, and its end is the place of the strand: by the accesses beside its
 -- start and its end
@@ -83,10 +87,10 @@ pub record IsRun (english hebrew : List ℕ) (at : Strand) (row : List Access) (
   pub last : 0 < run.end → IsUpTo english at (access_at row (run.end - 1))
   pub right : run.end < length row → IsUpTo english at (access_at row run.end) → ⊥
 
-pub record AreRun (english hebrew : List ℕ) (at : Strand) (readers row : List Access) (run : Run) : Type 0 where
+pub record AreRun (english hebrew : List ℕ) (at : Strand) (listed : Bool) (readers row : List Access) (run : Run) : Type 0 where
   pub start_is : run.start ≤ run.end
   pub end_is : run.end ≤ length row
-  pub is : IsRow readers row → IsRun english hebrew at row run
+  pub is : MayBeRow listed readers row → IsRun english hebrew at row run
 
 -- the last access, where there is one, is on a strand of a future
 abbrev pub EndsIn : ℕ → List Access → Type 0

@@ -126,7 +126,9 @@ impl CellLog {
                 first,
                 second: place,
             };
-            self.forget_order();
+            self.sorted = Vec::new(self.alloc);
+            self.rise = true;
+            self.held = 0;
             return Ok(());
         }
         let new = Access { place, strand: at };
@@ -174,25 +176,18 @@ impl CellLog {
                 first,
                 second: place,
             };
-            self.forget_order();
+            self.sorted = Vec::new(self.alloc);
+            self.rise = true;
+            self.held = 0;
             return Ok(());
         }
         self.kept = Kept::Clean {
             writer: Some(Access { place, strand: at }),
             readers: Vec::new(self.alloc),
         };
-        self.forget_order();
-        Ok(())
-    }
-
-    // There are no reads, which rise.
-    fn forget_order(&mut self)
-        ensures kept { self.new.kept ≡ self.old.kept }
-        ensures rise { self.new.rise ≡ true }
-        ensures sorted { self.new.sorted ≡ [] }
-    {
         self.sorted = Vec::new(self.alloc);
         self.rise = true;
         self.held = 0;
+        Ok(())
     }
 }

@@ -26,6 +26,7 @@ fn mark(readers: &mut Vec<Access>, place: u32, strand: Strand)
 
 // Gives the reads of a run another strand.
 fn mark_run(readers: &mut Vec<Access>, sorted: &[Access], run: Run, strand: Strand)
+    requires start { run.start ≤ run.end }
     requires end { run.end ≤ length sorted.now }
     ensures marked { IsInOrder readers.old.items → AreMarked strand.number sorted.now run.start run.end readers.old.items readers.new.items }
     ensures those { (a : Access) → Among a readers.new.items → Among a readers.old.items ⊎ (a.strand.number ≡ strand.number) }

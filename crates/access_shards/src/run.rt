@@ -1,12 +1,12 @@
 //! Among accesses that stand in the English order of one future, those from which a strand of it is reached are one run.
-ghost use Rattle.std.specs.Prelude.{◌≡◌, ℕ, ◌+◌, ◌^◌, ◌<◌, ◌≤◌, ◌×◌, false, length, IfOk, IfErr};
+ghost use Rattle.std.specs.Prelude.{◌≡◌, ℕ, ◌+◌, ◌^◌, ◌==◌, if◌then◌else◌, ◌<◌, ◌≤◌, false, length, IfOk, IfErr};
 ghost use Rattle.fut_base.specs.Dag.{Among};
 ghost use Rattle.order_list.specs.Frames.{IsAsBefore};
 ghost use Rattle.reach_table.specs.Telling.{HasMovedLast};
 ghost use Rattle.access_shards.specs.Kept.{IsInOrder};
 ghost use Rattle.access_shards.specs.Finding.{AllOnKnown};
 ghost use Rattle.access_shards.specs.Reading.{EndsBefore};
-ghost use Rattle.access_shards.specs.Runs.{access_at, IsParted, IsRow, TellsStand, AreBounds, Narrows, Spans, LooksAt, AreRun};
+ghost use Rattle.access_shards.specs.Runs.{access_at, IsParted, MayBeRow, TellsStand, AreBounds, Narrows, Spans, LooksAt, AreRun};
 
 use crate::kept::Access;
 use order_list::{Judge, Moved};
@@ -62,7 +62,7 @@ fn read_at(readers: &[Access], row: &[Access], listed: bool, i: usize) -> Access
     requires same { listed ≡ false → row.now ≡ readers.now }
     requires few { length row.now ≤ length readers.now }
     ensures among { Among result readers.now }
-    ensures is { IsRow readers.now row.now → result ≡ access_at row.now i }
+    ensures is { MayBeRow listed readers.now row.now → result ≡ access_at row.now i }
 {
     let access = row[i];
     if !listed {
@@ -156,7 +156,7 @@ fn look_at<J: Judge>(
     requires bounds { AreBounds (length row.now) span }
     requires from { span.low ≤ middle }
     requires to { middle < span.high }
-    ensures looks { IfOk result (λ next. LooksAt (J.english judge.old) (J.hebrew judge.old) at readers.now row.now span middle next) }
+    ensures looks { IfOk result (λ next. LooksAt (J.english judge.old) (J.hebrew judge.old) at listed readers.now row.now span middle next) }
     ensures moved { IfErr result (λ moved. HasMovedLast moved (J.may_move judge.old) (J.loaded judge.old) (J.loaded judge.new)) }
     ensures asks { J.asked judge.new ≤ J.asked judge.old + 1 }
     ensures judge { IsAsBefore J.Judge judge.old judge.new }
@@ -178,7 +178,7 @@ fn look_at_last<J: Judge>(
     requires kept_known { AllOnKnown (J.known judge.old) readers.now }
     requires same { listed ≡ false → row.now ≡ readers.now }
     requires few { length row.now ≤ length readers.now }
-    ensures span { IfOk result (λ span. Spans (J.english judge.old) (J.hebrew judge.old) at readers.now row.now span) }
+    ensures span { IfOk result (λ span. Spans (J.english judge.old) (J.hebrew judge.old) at listed readers.now row.now span) }
     ensures end { IfOk result (λ span. listed ≡ false → EndsBefore (J.english judge.old) at row.now → span.low ≡ length row.now) }
     ensures counts { IfOk result (λ span. J.asked judge.new + span.start + span.high ≤ J.asked judge.old + length row.now + span.floor + span.low) }
     ensures moved { IfErr result (λ moved. HasMovedLast moved (J.may_move judge.old) (J.loaded judge.old) (J.loaded judge.new)) }
@@ -195,7 +195,8 @@ fn look_at_last<J: Judge>(
     if row.len() == 0 {
         return Ok(span);
     }
-    look_at(judge, at, readers, row, listed, span, row.len() - 1)
+    let next = look_at(judge, at, readers, row, listed, span, row.len() - 1)?;
+    Ok(next)
 }
 
 // Finds the end of a run by halves.
@@ -211,8 +212,8 @@ fn find_end<J: Judge>(
     requires kept_known { AllOnKnown (J.known judge.old) readers.now }
     requires same { listed ≡ false → row.now ≡ readers.now }
     requires few { length row.now ≤ length readers.now }
-    requires span { Spans (J.english judge.old) (J.hebrew judge.old) at readers.now row.now begun }
-    ensures span { IfOk result (λ next. Spans (J.english judge.old) (J.hebrew judge.old) at readers.now row.now next) }
+    requires span { Spans (J.english judge.old) (J.hebrew judge.old) at listed readers.now row.now begun }
+    ensures span { IfOk result (λ next. Spans (J.english judge.old) (J.hebrew judge.old) at listed readers.now row.now next) }
     ensures met { IfOk result (λ next. next.low ≡ next.high) }
     ensures within { IfOk result (λ next. (begun.low ≤ next.low) × (next.high ≤ begun.high)) }
     ensures counts { IfOk result (λ next. J.asked judge.new + next.start + next.high + begun.floor + begun.low
@@ -243,9 +244,9 @@ fn find_start<J: Judge>(
     requires kept_known { AllOnKnown (J.known judge.old) readers.now }
     requires same { listed ≡ false → row.now ≡ readers.now }
     requires few { length row.now ≤ length readers.now }
-    requires span { Spans (J.english judge.old) (J.hebrew judge.old) at readers.now row.now span }
+    requires span { Spans (J.english judge.old) (J.hebrew judge.old) at listed readers.now row.now span }
     requires met { span.low ≡ span.high }
-    ensures run { IfOk result (λ run. AreRun (J.english judge.old) (J.hebrew judge.old) at readers.now row.now run) }
+    ensures run { IfOk result (λ run. AreRun (J.english judge.old) (J.hebrew judge.old) at listed readers.now row.now run) }
     ensures end { IfOk result (λ run. run.end ≡ span.low) }
     ensures drops_each { IfOk result (λ run. J.asked judge.new + run.start ≤ J.asked judge.old + span.start + 1) }
     ensures moved { IfErr result (λ moved. HasMovedLast moved (J.may_move judge.old) (J.loaded judge.old) (J.loaded judge.new)) }
@@ -282,7 +283,7 @@ pub fn find_run<J: Judge>(
     requires kept_known { AllOnKnown (J.known judge.old) readers.now }
     requires same { listed ≡ false → row.now ≡ readers.now }
     requires few { length row.now ≤ length readers.now }
-    ensures run { IfOk result (λ run. AreRun (J.english judge.old) (J.hebrew judge.old) at readers.now row.now run) }
+    ensures run { IfOk result (λ run. AreRun (J.english judge.old) (J.hebrew judge.old) at listed readers.now row.now run) }
     ensures end { IfOk result (λ run. listed ≡ false → EndsBefore (J.english judge.old) at row.now → run.end ≡ length row.now) }
     ensures drops_each { IfOk result (λ run. listed ≡ false → EndsBefore (J.english judge.old) at row.now
         → J.asked judge.new + run.start ≤ J.asked judge.old + run.end + 2) }
