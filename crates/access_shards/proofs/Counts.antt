@@ -1,10 +1,14 @@
 -- How many reads are in the two lists of a log, and how often the judge is asked.
-use Rattle.std.proofs.Common.{◌≡◌, ◌≢◌, ℕ, suc, ◌+◌, ◌^◌, ◌<◌, ◌≤◌, Bool, true, false, List, [], ◌∷◌, ◌++◌, ◌⊎◌, inl, inr, subst, ap, sym, refl, ◌∙◌, length, length-append, arith, true≢false}
+use Rattle.std.proofs.Common.{◌≡◌, ◌≢◌, ℕ, suc, ◌+◌, ◌-◌, ◌^◌, ◌<◌, ◌≤◌, Bool, true, false, List, [], ◌∷◌, ◌++◌, ◌⊎◌, inl, inr, subst, ap, sym, refl, ◌∙◌, length, length-append, take, drop, arith, true≢false}
 use Rattle.std.specs.Prelude.{◌↔◌}
 use Rattle.fut_base.specs.declared.event.Event.{Event}
 use Rattle.fut_base.specs.Dag.{Among}
 use Rattle.strand_laws.proofs.Places.{among_or, among_left, among_right}
 use Rattle.strand_tree.specs.declared.strand.Strand.{Strand}
+use Rattle.fut_base.proofs.Members.{at_place}
+use Rattle.reach_table.proofs.Members.{from_take, from_drop}
+use Rattle.access_shards.specs.Runs.{access_at, EndsIn}
+use Rattle.access_shards.proofs.Looking.{no_access}
 use Rattle.reach_table.specs.Telling.{AsksAtMost, HasOneOfEach}
 use Rattle.access_shards.specs.declared.kept.Access.{Access}
 use Rattle.access_shards.specs.declared.kept.Kept.{Kept}
@@ -79,23 +83,27 @@ count_few s past l k = few_sorted s (reads_of l.kept) l.sorted k.listed
 
 module _ (table : List Strand) (at : Strand) (place : ℕ) (kind : Kind) (known : ℕ) (english hebrew : List ℕ) (old new : Logged) where
   -- where few questions were asked by the lists in the English order, they are few by the number of kept reads
-  pub asks_few : (before between after : ℕ) → AsksAtMost table 1 before between
+  pub asks_few : (rise : Bool) (reads sorted : List Access) → rise ≡ old.rise → reads ≡ reads_of old.kept → sorted ≡ old.sorted
+      → (before between after : ℕ) → AsksAtMost table 1 before between
       → KeepsOneMore table at place kind known english hebrew old new
-      → (AreListed at.future old.rise (reads_of old.kept) old.sorted → length old.sorted ≤ reader_count old.kept
-      → AreListed at.future new.rise (reads_of new.kept) new.sorted)
-      → (AreListed at.future old.rise (reads_of old.kept) old.sorted → length old.sorted ≤ reader_count old.kept → (bits : ℕ)
-      → length (in_english old.rise (reads_of old.kept) old.sorted) < 2 ^ bits
-      → after + length (in_english new.rise (reads_of new.kept) new.sorted) ≤ between + length (in_english old.rise (reads_of old.kept) old.sorted) + bits + 3)
+      → (AreListed at.future rise reads sorted → length sorted ≤ length reads → AreListed at.future new.rise (reads_of new.kept) new.sorted)
+      → (AreListed at.future rise reads sorted → length sorted ≤ length reads → (bits : ℕ) → length (in_english rise reads sorted) < 2 ^ bits
+      → after + length (in_english new.rise (reads_of new.kept) new.sorted) ≤ between + length (in_english rise reads sorted) + bits + 3)
       → AsksFew table at place kind known english hebrew before after old new
-  asks_few before between after one keeps lists halves s past view may was listed =
-      let few = count_few s past old was in
+  asks_few rise reads sorted er ex ey before between after one keeps lists halves s past view may was listed =
+      let move : (P : Bool → List Access → List Access → Type 0) → P old.rise (reads_of old.kept) old.sorted → P rise reads sorted =
+      (λ P h. subst (λ r. P r reads sorted) (sym er)
+      (subst (λ x. P old.rise x sorted) (sym ex) (subst (λ y. P old.rise (reads_of old.kept) y) (sym ey) h))) in
+      let listed' = move (AreListed at.future) listed in
+      let few = move (λ _ x y. length y ≤ length x) (count_few s past old was) in
       let now = keeps s past view may was in
-      let again = lists listed few in
-      let count = count_same s past old was listed.there in
+      let again = lists listed' few in
+      let count : length (in_english rise reads sorted) ≡ reader_count old.kept =
+      move (λ r x y. length (in_english r x y) ≡ reader_count old.kept) (count_same s past old was listed.there) in
       let count' = count_same s _ new now again.there in (
         again,
         λ bits lt each. (
-            let k = halves listed few bits (subst (λ n. n < 2 ^ bits) (sym count) lt) in
+            let k = halves listed' few bits (subst (λ n. n < 2 ^ bits) (sym count) lt) in
             let a = one each in
             omega (arith, k, a, count, count')),
       )
@@ -115,3 +123,50 @@ module _ (table : List Strand) (at : Strand) (place : ℕ) (kind : Kind) (known 
 pub asks_nothing : (table : List Strand) (at : Strand) (place : ℕ) (kind : Kind) (known : ℕ) (english hebrew : List ℕ) (old : Logged) (before : ℕ)
     → AsksFew table at place kind known english hebrew before before old old
 asks_nothing table at place kind known english hebrew old before s past view may was listed = (listed, λ bits lt each. omega arith)
+
+-- the list in the English order ends in the future of its accesses
+pub ends_listed : (future : ℕ) (rise : Bool) (reads sorted : List Access) → AreListed future rise reads sorted → EndsIn future (in_english rise reads sorted)
+ends_listed future rise reads sorted l some =
+    l.futures (access_at (in_english rise reads sorted) (length (in_english rise reads sorted) - 1))
+    (at_place (in_english rise reads sorted) (length (in_english rise reads sorted) - 1) no_access (omega (arith, some)))
+
+pub ends_rising : (future : ℕ) (rise : Bool) (reads sorted : List Access) → rise ≡ true → AreListed future rise reads sorted → EndsIn future reads
+ends_rising future rise reads sorted e l = subst (λ b. EndsIn future (in_english b reads sorted)) e (ends_listed future rise reads sorted l)
+
+pub ends_sorted : (future : ℕ) (rise : Bool) (reads sorted : List Access) → rise ≡ false → AreListed future rise reads sorted
+    → EndsIn future sorted × (0 < length sorted)
+ends_sorted future rise reads sorted e l = (
+  subst (λ b. EndsIn future (in_english b reads sorted)) e (ends_listed future rise reads sorted l),
+  elim l.there [ inl y ↦ absurd (true≢false (sym y ∙ e)) | inr some ↦ some ],
+)
+
+-- where an access is put at the end of reads that rise
+pub listed_end : (future : ℕ) (rise : Bool) (reads sorted after sorted' : List Access) (new : Access) → rise ≡ true → new.strand.future ≡ future
+    → ((a : Access) → Among a after → Among a reads ⊎ (new ≡ a)) → AreListed future rise reads sorted → AreListed future true after sorted'
+listed_end future rise reads sorted after sorted' new e of those l =
+    record {
+      there = inl refl;
+      futures = λ a h. elim (those a h) [
+        | inl m ↦ l.futures a (subst (λ b. Among a (in_english b reads sorted)) (sym e) m)
+        | inr same ↦ subst (λ (z : Access). z.strand.future ≡ future) same of
+      ];
+    }
+
+-- or in the place of a run
+pub listed_put : (future : ℕ) (rise : Bool) (reads sorted after sorted' row : List Access) (new : Access) (start end : ℕ) → row ≡ in_english rise reads sorted
+    → sorted' ≡ take start row ++ new ∷ drop end row → new.strand.future ≡ future → AreListed future rise reads sorted → AreListed future false after sorted'
+listed_put future rise reads sorted after sorted' row new start end row_is is of l =
+    record {
+      there = inr (
+          let len = length-append (take start row) (new ∷ drop end row) in
+          let same = ap (length {A = Access}) is in
+          omega (arith, len, same));
+      futures = λ a h. elim (among_or a (take start row) (new ∷ drop end row) (subst (Among a) is h)) [
+        | inl m ↦ of_row a (from_take start row a m)
+        | inr (inl same) ↦ subst (λ (z : Access). z.strand.future ≡ future) same of
+        | inr (inr m) ↦ of_row a (from_drop end row a m)
+      ];
+    }
+  where
+    of_row : (a : Access) → Among a row → a.strand.future ≡ future
+    of_row a m = l.futures a (subst (Among a) row_is m)

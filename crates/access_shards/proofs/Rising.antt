@@ -20,7 +20,7 @@ use Rattle.access_shards.specs.Touches.{Touch, IsRising, IsLate}
 use Rattle.access_shards.specs.Kept.{Kind, IsInOrder, AreReaders}
 use Rattle.access_shards.specs.Finding.{AreThoseApart}
 use Rattle.access_shards.specs.Logged.{StandsFirst, RiseInEnglish}
-use Rattle.access_shards.specs.Reading.{IsNotAfter, AreApart, AreUnjoined}
+use Rattle.access_shards.specs.Reading.{IsNotAfter, EndsBefore, AreApart, AreUnjoined}
 use Rattle.std.proofs.lemmas.Bool.{and_from}
 use Rattle.access_shards.proofs.Enough.{one_at}
 use Rattle.access_shards.proofs.Keeping.{in_order_last}
@@ -122,6 +122,14 @@ last_at xs before last d is =
 
 last_among : (all before : List Access) (last : Access) → all ≡ before ++ last ∷ [] → Among last all
 last_among all before last is = subst (Among last) (sym is) (among_right last before (last ∷ []) (inl refl))
+
+-- what is said of the last of some accesses is said of the one at the last place
+pub ends_at : (english : List ℕ) (at : Strand) (xs : List Access) (d : Access) → 0 < length xs → EndsBefore english at xs
+    → IsNotAfter english (get_or xs (length xs - 1) d).strand at
+ends_at english at xs d some ends = elim (split_last xs) [
+  | inl e ↦ absurd (let k = ap (length {A = Access}) e in omega (arith, some, k))
+  | inr k ↦ subst (λ (x : Access). IsNotAfter english x.strand at) (sym (last_at xs k.0 k.1 d k.2)) (ends k.0 k.1 k.2)
+]
 
 pub in_order_left : (xs ys : List Access) → IsInOrder (xs ++ ys) → IsInOrder xs
 in_order_left [] ys h = tt

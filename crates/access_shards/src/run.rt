@@ -294,5 +294,6 @@ pub fn find_run<J: Judge>(
 {
     let begun = look_at_last(judge, at, readers, row, listed)?;
     let span = find_end(judge, at, readers, row, listed, begun)?;
-    find_start(judge, at, readers, row, listed, span)
+    let run = find_start(judge, at, readers, row, listed, span)?;
+    Ok(run)
 }

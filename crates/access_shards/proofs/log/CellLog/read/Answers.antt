@@ -3,6 +3,9 @@ use Rattle.std.proofs.lemmas.Result.{err_from_is_err_and}
 use Rattle.access_shards.specs.Finding.{FindsLast}
 use Rattle.reach_table.proofs.Reaching.{moved_on}
 use Rattle.access_shards.proofs.Replaced.{read_at}
+use Rattle.access_shards.specs.Logged.{reads_of}
+use Rattle.access_shards.specs.Kept.{reading}
+use Rattle.access_shards.proofs.Counts.{asks_few, asks_none, asks_nothing}
 use Rattle.access_shards.proofs.Logging.{known_writer, known_readers, read_finds, read_keeps, strands_stay}
 use Rattle.access_shards.proofs.log.CellLog.read.Goals as goal
 
@@ -48,3 +51,16 @@ pub returns-clause-strands : goal.returns-clause-strands
 returns-clause-strands g c =
     strands_stay c.args.at c.args.place c.args.self.now.kept c.in-Clean.writer c.in-Clean.readers c.keep_read.new.readers
     (ap (λ v. v.kept) (sym c.self.view_is) ∙ c.in-Clean.is) c.keep_read.ensures.those
+
+pub returns-in-Some-clause-few : goal.returns-in-Some-clause-few
+returns-in-Some-clause-few g c =
+    asks_none c.args.reach.now c.args.at c.args.place reading (g.J.Judge.known c.args.judge.now) (g.J.Judge.english c.args.judge.now)
+    (g.J.Judge.hebrew c.args.judge.now) c.args.self.now _ _ _ c.unreached_writer.ensures.asks refl refl
+
+pub returns-clause-few : goal.returns-clause-few
+returns-clause-few g c =
+    let same = ap (λ v. v.kept) (sym c.self.view_is) ∙ c.in-Clean.is in
+    asks_few c.args.reach.now c.args.at c.args.place reading (g.J.Judge.known c.args.judge.now) (g.J.Judge.english c.args.judge.now)
+    (g.J.Judge.hebrew c.args.judge.now) c.args.self.now _ c.self.inside.rise c.in-Clean.readers.items c.self.inside.sorted.items
+    (ap (λ v. v.rise) c.self.view_is) (ap reads_of (sym same)) (ap (λ v. v.sorted) c.self.view_is)
+    _ _ _ c.unreached_writer.ensures.asks (returns-clause-kept g c) c.in_ok-self-inside.ensures.listed c.keep_read.ensures.halves
