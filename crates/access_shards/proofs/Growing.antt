@@ -13,7 +13,7 @@ use Rattle.access_shards.specs.declared.kept.Access.{Access}
 use Rattle.access_shards.specs.declared.kept.Kept.TheVariants.{Clean, Found}
 use Rattle.access_shards.specs.Touches.{Touch, IsLate, AreRacing, IsFirstPair, IsLatest}
 use Rattle.access_shards.specs.Kept.{Kind, reading, kinds, Shows, IsWriter, AreReaders, IsKept, touch}
-use Rattle.access_shards.specs.Logged.{StandsFirst, RiseInEnglish, reads_of}
+use Rattle.access_shards.specs.Logged.{StandsFirst, RiseInEnglish, IsInEnglish, AreSorted, reads_of}
 use Rattle.access_shards.specs.declared.kept.Kept.{Kept}
 use Rattle.fut_base.specs.Orders.{english_of, hebrew_of}
 use Rattle.reach_table.proofs.Events.{orders_stay}
@@ -126,9 +126,33 @@ rise_stays s more sound past (Clean writer readers) k rise a b ha hb lt =
     stands_on s more sound a.strand b.strand (k.2.each a ha).2.strand_of (k.2.each b hb).2.strand_of
     (λ e. readers_apart s past readers.items k.2 a b ha hb lt ([], e)) (rise a b ha hb lt)
 
+english_on : (s more : List Event) → IsSound (s ++ more) → (all : List Access) → ((a : Access) → Among a all → IsStrandOf s a.strand) → IsInEnglish s all
+    → IsInEnglish (s ++ more) all
+english_on s more sound [] of h = tt
+english_on s more sound (a ∷ all) of h = (
+  (λ b m. (let k = h.0 b m in (stands_on s more sound a.strand b.strand (of a (inl refl)) (of b (inr m)) k.1 k.0, k.1))),
+  english_on s more sound all (λ b m. of b (inr m)) h.1,
+)
+
+strands_kept : (s : List Event) (past : List (Touch Kind)) (kept : Kept) → IsKept s past kept → (a : Access) → Among a (reads_of kept) → IsStrandOf s a.strand
+strands_kept s past (Found i j) k a h = absurd h
+strands_kept s past (Clean writer readers) k a h = (k.2.each a h).2.strand_of
+
+sorted_stays : (s more : List Event) → IsSound (s ++ more) → (all sorted : List Access) → ((a : Access) → Among a all → IsStrandOf s a.strand)
+    → AreSorted s all sorted → AreSorted (s ++ more) all sorted
+sorted_stays s more sound all sorted of k =
+    record {
+      order = english_on s more sound sorted (λ a h. elim k.those [ inl e ↦ absurd (subst (Among a) e h) | inr same ↦ of a ((same a).0 h) ]) k.order;
+      those = k.those;
+    }
+
 pub log_stays : LogStays
 log_stays s more past l sound on k =
-    record { kept = kept_stays s more past l.kept sound on k.kept; rising = λ y. rise_stays s more sound past l.kept k.kept (k.rising y) }
+    record {
+      kept = kept_stays s more past l.kept sound on k.kept;
+      rising = λ y. rise_stays s more sound past l.kept k.kept (k.rising y);
+      listed = sorted_stays s more sound (reads_of l.kept) l.sorted (strands_kept s past l.kept k.kept) k.listed;
+    }
 
 pub late_stays : LateStays
 late_stays s more past sound on late a b ha hb lt r = late a b ha hb lt ((same_paths s more sound b.strand a.strand (on a ha)).0 r)

@@ -3,6 +3,11 @@ pub mod Next
 pub mod Keeping
 pub mod Looking
 pub mod Rising
+pub mod Runs
+pub mod Listing
+pub mod Spans
+pub mod Replaced
+pub mod Counts
 pub mod Logging
 pub mod Greatest
 pub mod Growing

@@ -4,4 +4,6 @@ pub mod Kept
 pub mod Laws
 pub mod Logged
 pub mod Reading
+pub mod Replacing
+pub mod Runs
 pub mod Touches

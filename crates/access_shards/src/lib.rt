@@ -10,6 +10,8 @@ mod kept;
 pub mod laws;
 mod log;
 mod reading;
+mod replacing;
+mod run;
 #[cfg(test)]
 mod tests;
 

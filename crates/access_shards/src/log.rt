@@ -5,12 +5,13 @@ ghost use Rattle.reach_table.specs.Telling.{AllKnown, HasMovedLast, AsksAtMost};
 ghost use Rattle.access_shards.specs.declared.kept.Kept.{Kept};
 ghost use Rattle.access_shards.specs.Kept.{reading, writing, AreKnown, StrandsStay, IsNew};
 ghost use Rattle.fut_base.specs.declared.event.Event.{Event};
-ghost use Rattle.access_shards.specs.Reading.{ComesAfter, IsNotFull};
-ghost use Rattle.access_shards.specs.Logged.{HasRoom, IsLogOf, KeepsOneMore, reader_count, RisesIfClean};
+ghost use Rattle.access_shards.specs.Reading.{ComesAfter};
+ghost use Rattle.access_shards.specs.Logged.{HasRoom, IsLogOf, KeepsOneMore, AsksFew, reads_of, reader_count, RisesIfClean};
 
 use crate::finding::{last_unreached, unreached_writer};
 use crate::kept::{Access, Kept};
 use crate::reading::keep_read;
+use crate::replacing::reserve_sorted;
 use fut_base::list::NoMemory;
 use order_list::{Judge, Moved};
 use reach_table::Reach;
@@ -19,24 +20,27 @@ use std::marker::Model;
 use strand_tree::Strand;
 
 /// What has to be remembered of the accesses of one cell so that no race is missed. Contracts see what is kept, for how
-/// many reads in all there is room, and `rise`, whether it is said that the reads rise in the English order of one future.
+/// many reads in all there is room, `rise`, whether it is said that the reads rise in the English order of one future, and
+/// `sorted`: where reads of one future came out of that order, a list of them in it.
 #[derive(Drop)]
 pub struct CellLog {
     alloc: Global,
     kept: Kept,
     room: Vec<Access>,
+    sorted: Vec<Access>,
     rise: bool,
+    held: usize,
 }
 
 impl Model for CellLog {
-    ghost use Rattle.std.specs.Prelude.{◌≡◌, [], vec_capacity};
     ghost use Rattle.access_shards.specs.Logged.{Logged};
+    ghost use Rattle.access_shards.specs.Replacing.{HasMemory};
 
     ghost Value = { Logged };
 
-    ghost view = { λ l. record { kept = l.kept; room = vec_capacity l.room; rise = l.rise } };
+    ghost view = { λ l. record { kept = l.kept; room = l.held; rise = l.rise; sorted = l.sorted.items } };
 
-    ghost invariant = { λ l. l.room.items ≡ [] };
+    ghost invariant = { λ l. HasMemory l.kept l.rise l.held l.room l.sorted };
 }
 
 impl CellLog {
@@ -53,7 +57,9 @@ impl CellLog {
                 readers: Vec::new(alloc),
             },
             room: Vec::new(alloc),
+            sorted: Vec::new(alloc),
             rise: true,
+            held: 0,
         }
     }
 
@@ -61,14 +67,19 @@ impl CellLog {
     pub fn reserve(&mut self) -> Result<(), NoMemory>
         ensures kept { self.new.kept ≡ self.old.kept }
         ensures rise { self.new.rise ≡ self.old.rise }
+        ensures sorted { self.new.sorted ≡ self.old.sorted }
         ensures room { OnOk result (HasRoom self.new) }
         ensures unchanged { OnErr result (self.new ≡ self.old) }
     {
-        let readers = match &self.kept {
-            Kept::Clean { readers, .. } => readers.len(),
-            Kept::Found { .. } => 0,
+        let Kept::Clean { readers, .. } = &self.kept else {
+            self.room.reserve(1)?;
+            self.held = 1;
+            return Ok(());
         };
-        self.room.reserve(readers + 1)?;
+        let count = readers.len() + 1;
+        self.room.reserve(count)?;
+        reserve_sorted(self.rise, readers, &mut self.sorted)?;
+        self.held = count;
         Ok(())
     }
 
@@ -79,10 +90,11 @@ impl CellLog {
         &self.kept
     }
 
-    /// Keeps a read at a place above all earlier ones, on strand `at`, whose table `reach` is. It tries at most once for
-    /// each kept access whether a path leads from it, asks once more for the last, and takes no memory. Where the read comes
-    /// after the kept ones in the English order of one future, and their list is not full, each question after the fourth
-    /// drops one of them: that is amortised constant time. After `Moved` nothing is changed, and the room still stands.
+    /// Keeps a read at a place above all earlier ones, on strand `at`, whose table `reach` is. It asks at most twice more
+    /// than accesses are kept, and takes no memory. Where the read comes after the kept ones in the English order of one
+    /// future, each question after the fourth drops one of them; where it and they are of one future, and have been since
+    /// the last write, it asks once more for each time that their number can be halved. After `Moved` nothing is changed,
+    /// and the room still stands.
     pub fn read<J: Judge>(
         &mut self,
         judge: &mut J,
@@ -100,8 +112,10 @@ impl CellLog {
         ensures unchanged { OnErr result (self.new ≡ self.old) }
         ensures moved { IfErr result (λ moved. HasMovedLast moved (J.may_move judge.old) (J.loaded judge.old) (J.loaded judge.new)) }
         ensures asks { AsksAtMost reach.now (reader_count self.old.kept + 2) (J.asked judge.old) (J.asked judge.new) }
-        ensures drops_each { ComesAfter (J.english judge.old) at self.old → IsNotFull self.old.kept
+        ensures drops_each { ComesAfter (J.english judge.old) at self.old
             → OnOk result (AsksAtMost reach.now (reader_count self.old.kept + 4) (J.asked judge.old) (J.asked judge.new + reader_count self.new.kept)) }
+        ensures few { OnOk result (AsksFew reach.now at place reading (J.known judge.old) (J.english judge.old) (J.hebrew judge.old)
+            (J.asked judge.old) (J.asked judge.new) self.old self.new) }
         ensures judge { IsAsBefore J.Judge judge.old judge.new }
     {
         let Kept::Clean { writer, readers } = &mut self.kept else {
@@ -112,10 +126,22 @@ impl CellLog {
                 first,
                 second: place,
             };
+            self.sorted = Vec::new(self.alloc);
+            self.rise = true;
+            self.held = 0;
             return Ok(());
         }
         let new = Access { place, strand: at };
-        self.rise = keep_read(judge, reach, readers, &mut self.room, self.rise, new)?;
+        self.rise = keep_read(
+            judge,
+            reach,
+            readers,
+            &mut self.room,
+            &mut self.sorted,
+            self.rise,
+            new,
+        )?;
+        self.held = 0;
         Ok(())
     }
 
@@ -136,6 +162,7 @@ impl CellLog {
         ensures kept { OnOk result (KeepsOneMore reach.now at place writing (J.known judge.old) (J.english judge.old) (J.hebrew judge.old) self.old self.new) }
         ensures strands { OnOk result (StrandsStay at self.old.kept self.new.kept) }
         ensures rise { OnOk result (RisesIfClean self.new.kept self.new.rise) }
+        ensures no_reads { OnOk result (reads_of self.new.kept ≡ []) }
         ensures unchanged { OnErr result (self.new ≡ self.old) }
         ensures moved { IfErr result (λ moved. HasMovedLast moved (J.may_move judge.old) (J.loaded judge.old) (J.loaded judge.new)) }
         ensures asks { AsksAtMost reach.now (reader_count self.old.kept + 1) (J.asked judge.old) (J.asked judge.new) }
@@ -149,13 +176,18 @@ impl CellLog {
                 first,
                 second: place,
             };
+            self.sorted = Vec::new(self.alloc);
+            self.rise = true;
+            self.held = 0;
             return Ok(());
         }
         self.kept = Kept::Clean {
             writer: Some(Access { place, strand: at }),
             readers: Vec::new(self.alloc),
         };
+        self.sorted = Vec::new(self.alloc);
         self.rise = true;
+        self.held = 0;
         Ok(())
     }
 }

@@ -131,13 +131,13 @@ logs_next h e c kind logs new is lt a k =
 
 -- a log whose room alone is another
 pub logs_same : (h : List Event) (logs : List Logged) (c : ℕ) (old new : Logged) → slice_get logs c ≡ Some old → new.kept ≡ old.kept → new.rise ≡ old.rise
-    → AreLogsOf h logs → AreLogsOf h (set logs c new)
-logs_same h logs c old new is same level a =
+    → new.sorted ≡ old.sorted → AreLogsOf h logs → AreLogsOf h (set logs c new)
+logs_same h logs c old new is same level order a =
     record {
       each = λ d l at. elim (set_get logs c d new l at) [
         | inl n ↦ subst (λ (x : Logged). IsLogOf (structure_of h) (touches_of d h) x) n.1
             (subst (λ q. IsLogOf (structure_of h) (touches_of q h) new) (sym n.0)
-            (log_same (structure_of h) (touches_of c h) old new same level (a.each c old is)))
+            (log_same (structure_of h) (touches_of c h) old new same level order (a.each c old is)))
         | inr o ↦ a.each d l o.1
       ];
       rest = λ d le. a.rest d (let n = length-set logs c new in omega (arith, n, le));
@@ -187,9 +187,9 @@ knows_logs h english hebrew doers logs logs' count k cells few = record {
 -- a cell's log in a list that was made longer and given room
 module _ (h : List Event) (english hebrew : List ℕ) (doers : List Doer) (logs grown : List Logged) (count cell : ℕ) (old room : Logged)
     (k : Knows h english hebrew doers logs count) (cells : AreLogsOf h grown) (few : length grown ≤ 2 ^ 32)
-    (at : slice_get grown cell ≡ Some old) (same : room.kept ≡ old.kept) (level : room.rise ≡ old.rise) where
+    (at : slice_get grown cell ≡ Some old) (same : room.kept ≡ old.kept) (level : room.rise ≡ old.rise) (order : room.sorted ≡ old.sorted) where
   pub knows_room : Knows h english hebrew doers (set grown cell room) count
-  knows_room = knows_logs h english hebrew doers logs (set grown cell room) count k (logs_same h grown cell old room at same level cells)
+  knows_room = knows_logs h english hebrew doers logs (set grown cell room) count k (logs_same h grown cell old room at same level order cells)
       (let n = length-set grown cell room in omega (arith, n, few))
 
   pub room_known : (l : Logged) → slice_get (set grown cell room) cell ≡ Some l → AreKnown (length english) l.kept

@@ -88,7 +88,7 @@ report_done h logs i races le up logs_of =
           (λ r f. subst (TellsRaces h r.cell) f.2 (kept_tells_races h r.cell f.0.kept (logs_of.each r.cell f.0 f.1).kept)) races up.each;
       whole = λ c a b r. elim (cases_lt c (length logs)) [
         | inl lt ↦ (
-            let none : Logged = record { kept = Found 0 0; room = 0; rise = true } in
+            let none : Logged = record { kept = Found 0 0; room = 0; rise = true; sorted = [] } in
             let l : Logged = get_or logs c none in
             let at : slice_get logs c ≡ Some l = slice_get-get_or logs c none lt in
             let k = racing_found h c a b l.kept (kept_tells_races h c l.kept (logs_of.each c l at).kept) r in

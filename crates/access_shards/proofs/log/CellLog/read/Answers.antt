@@ -1,8 +1,11 @@
-use Rattle.std.proofs.Common.{◌∙◌, ap, sym, subst, arith, option_to_list}
+use Rattle.std.proofs.Common.{◌∙◌, ap, sym, subst, refl, arith, option_to_list}
 use Rattle.std.proofs.lemmas.Result.{err_from_is_err_and}
 use Rattle.access_shards.specs.Finding.{FindsLast}
 use Rattle.reach_table.proofs.Reaching.{moved_on}
-use Rattle.access_shards.proofs.Rising.{read_at}
+use Rattle.access_shards.proofs.Replaced.{read_at}
+use Rattle.access_shards.specs.Logged.{reads_of}
+use Rattle.access_shards.specs.Kept.{reading}
+use Rattle.access_shards.proofs.Counts.{asks_few, asks_none, asks_nothing}
 use Rattle.access_shards.proofs.Logging.{known_writer, known_readers, read_finds, read_keeps, strands_stay}
 use Rattle.access_shards.proofs.log.CellLog.read.Goals as goal
 
@@ -14,9 +17,10 @@ unreached_writer-requires-clause-writer_known g c =
 pub returns-in-Some-clause-kept : goal.returns-in-Some-clause-kept
 returns-in-Some-clause-kept g c =
     read_finds c.args.reach.now c.args.at c.args.place _ _ _ c.args.self.now c.in-Clean.writer c.in-Clean.readers
-    (ap (λ v. v.kept) (sym c.self.view_is) ∙ c.in-Clean.is) _ c.in-Some.first _
+    (ap (λ v. v.kept) (sym c.self.view_is) ∙ c.in-Clean.is) c.in-Some.first _
     (subst (λ o. FindsLast c.args.reach.now c.args.at (g.J.Judge.known c.args.judge.now) (g.J.Judge.english c.args.judge.now)
     (g.J.Judge.hebrew c.args.judge.now) (option_to_list c.in-Clean.writer) o) c.in-Some.is c.in_ok-first.ensures.finds)
+    refl c.new.ensures.items
 
 pub keep_read-requires-clause-kept_known : goal.keep_read-requires-clause-kept_known
 keep_read-requires-clause-kept_known g c = λ a h.
@@ -36,14 +40,27 @@ returns-clause-kept g c =
     let E = g.J.Judge.english c.args.judge.now in
     let H = g.J.Judge.hebrew c.args.judge.now in
     read_keeps c.args.reach.now c.args.at c.args.place K E H c.args.self.now c.in-Clean.writer c.in-Clean.readers
-    (ap (λ v. v.kept) (sym c.self.view_is) ∙ c.in-Clean.is) _
+    (ap (λ v. v.kept) (sym c.self.view_is) ∙ c.in-Clean.is)
     (subst (λ o. FindsLast c.args.reach.now c.args.at K E H (option_to_list c.in-Clean.writer) o) c.in_default-2.is c.in_ok-first.ensures.finds)
-    c.keep_read.new.readers c.in_ok-self-inside.field-0
-    (read_at c.args.reach.now (record { place = c.args.place; strand = c.args.at }) K E H c.in-Clean.readers.items c.keep_read.new.readers.items _ _ _
-    c.args.self.now.rise c.self.inside.rise c.in_ok-self-inside.field-0
-    e.known e.english e.hebrew (ap (λ v. v.rise) c.self.view_is) c.in_ok-self-inside.ensures.keeps)
+    c.keep_read.new.readers _
+    (read_at c.args.reach.now (record { place = c.args.place; strand = c.args.at }) K _ E H _ _ c.in-Clean.readers.items c.keep_read.new.readers.items
+    c.args.self.now.rise _ c.in_ok-self-inside.field-0 c.args.self.now.sorted _ c.keep_read.new.sorted.items
+    e.known e.english e.hebrew (ap (λ v. v.rise) c.self.view_is) (ap (λ v. v.sorted) c.self.view_is) c.in_ok-self-inside.ensures.keeps) refl
 
 pub returns-clause-strands : goal.returns-clause-strands
 returns-clause-strands g c =
     strands_stay c.args.at c.args.place c.args.self.now.kept c.in-Clean.writer c.in-Clean.readers c.keep_read.new.readers
     (ap (λ v. v.kept) (sym c.self.view_is) ∙ c.in-Clean.is) c.keep_read.ensures.those
+
+pub returns-in-Some-clause-few : goal.returns-in-Some-clause-few
+returns-in-Some-clause-few g c =
+    asks_none c.args.reach.now c.args.at c.args.place reading (g.J.Judge.known c.args.judge.now) (g.J.Judge.english c.args.judge.now)
+    (g.J.Judge.hebrew c.args.judge.now) c.args.self.now _ _ _ c.unreached_writer.ensures.asks refl refl
+
+pub returns-clause-few : goal.returns-clause-few
+returns-clause-few g c =
+    let same = ap (λ v. v.kept) (sym c.self.view_is) ∙ c.in-Clean.is in
+    asks_few c.args.reach.now c.args.at c.args.place reading (g.J.Judge.known c.args.judge.now) (g.J.Judge.english c.args.judge.now)
+    (g.J.Judge.hebrew c.args.judge.now) c.args.self.now _ c.self.inside.rise c.in-Clean.readers.items c.self.inside.sorted.items
+    (ap (λ v. v.rise) c.self.view_is) (ap reads_of (sym same)) (ap (λ v. v.sorted) c.self.view_is)
+    _ _ _ c.unreached_writer.ensures.asks (returns-clause-kept g c) c.in_ok-self-inside.ensures.listed c.keep_read.ensures.halves

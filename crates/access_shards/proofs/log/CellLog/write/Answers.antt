@@ -1,4 +1,4 @@
-use Rattle.std.proofs.Common.{◌∙◌, ap, sym, subst}
+use Rattle.std.proofs.Common.{◌∙◌, ap, sym, subst, refl}
 use Rattle.std.specs.Prelude.{Some, None}
 use Rattle.access_shards.specs.Kept.{all_kept}
 use Rattle.access_shards.specs.Finding.{AllOnKnown, FindsLast}
@@ -17,9 +17,10 @@ returns-in-Some-clause-kept g c =
     let E = g.J.Judge.english c.args.judge.now in
     let H = g.J.Judge.hebrew c.args.judge.now in
     write_finds c.args.reach.now c.args.at c.args.place K E H c.args.self.now c.in-Clean.writer c.in-Clean.readers
-    (ap (λ v. v.kept) (sym c.self.view_is) ∙ c.in-Clean.is) _ c.in-Some.first _
+    (ap (λ v. v.kept) (sym c.self.view_is) ∙ c.in-Clean.is) c.in-Some.first _
     (subst (λ l. FindsLast c.args.reach.now c.args.at K E H (all_kept c.in-Clean.writer l) (Some c.in-Some.first)) c.as_slice.ensures.value
     (subst (λ o. FindsLast c.args.reach.now c.args.at K E H (all_kept c.in-Clean.writer c.as_slice.result.now) o) c.in-Some.is c.in_ok-first.ensures.finds))
+    refl c.new.ensures.items
 
 pub returns-clause-kept : goal.returns-clause-kept
 returns-clause-kept g c =
@@ -27,8 +28,8 @@ returns-clause-kept g c =
     let E = g.J.Judge.english c.args.judge.now in
     let H = g.J.Judge.hebrew c.args.judge.now in
     write_keeps c.args.reach.now c.args.at c.args.place K E H c.args.self.now c.in-Clean.writer c.in-Clean.readers
-    (ap (λ v. v.kept) (sym c.self.view_is) ∙ c.in-Clean.is) _
+    (ap (λ v. v.kept) (sym c.self.view_is) ∙ c.in-Clean.is)
     (subst (λ l. FindsLast c.args.reach.now c.args.at K E H (all_kept c.in-Clean.writer l) None) c.as_slice.ensures.value
     (subst (λ o. FindsLast c.args.reach.now c.args.at K E H (all_kept c.in-Clean.writer c.as_slice.result.now) o) c.in_default-2.is
     c.in_ok-first.ensures.finds))
-    c.new.result c.new.ensures.items _
+    c.new.result c.new.ensures.items _ refl c.new-2.ensures.items

@@ -16,7 +16,7 @@ returns-in_err-reserve-clause-stays c =
     let few = c.grow.ensures.few (2 ^ 32) k.few (omega (arith, c.ranges.cell.fits)) in
     knows_room h f.places.english f.places.hebrew f.doers.items f.logs.items grown f.count c.args.cell c.index_mut.result.now c.reserve.new.self k
     (c.grow.ensures.cells h k.cells) few
-    (slice_get_read grown (length grown) c.args.cell c.index_mut.result.now refl there c.index_mut.ensures.value) c.reserve.ensures.kept c.reserve.ensures.rise)
+    (slice_get_read grown (length grown) c.args.cell c.index_mut.result.now refl there c.index_mut.ensures.value) c.reserve.ensures.kept c.reserve.ensures.rise c.reserve.ensures.sorted)
 
 pub index-requires : goal.index-requires
 index-requires c =
@@ -55,7 +55,7 @@ keep-requires-clause-kept_known c =
     let n = length-set grown c.args.cell c.reserve.new.self in
     room_known r.0 f.places.english f.places.hebrew f.doers.items f.logs.items grown f.count c.args.cell c.index_mut.result.now c.reserve.new.self k
     (c.grow.ensures.cells r.0 k.cells) few
-    (slice_get_read grown (length grown) c.args.cell c.index_mut.result.now refl there c.index_mut.ensures.value) c.reserve.ensures.kept c.reserve.ensures.rise
+    (slice_get_read grown (length grown) c.args.cell c.index_mut.result.now refl there c.index_mut.ensures.value) c.reserve.ensures.kept c.reserve.ensures.rise c.reserve.ensures.sorted
     c.index_mut-2.result.now (slice_get_read with_room (length with_room) c.args.cell c.index_mut-2.result.now refl
     (omega (arith, n, there)) c.index_mut-2.ensures.value)
 
@@ -71,7 +71,7 @@ returns-clause-takes c = λ h e p k steps.
     let lt = task_in h e f.places.english f.places.hebrew doers f.logs.items f.count c.args.task k steps p.task_is in
     access_taken h f.places.english f.places.hebrew doers f.logs.items grown f.count c.args.cell c.index_mut.result.now c.reserve.new.self k
     (c.grow.ensures.cells h k.cells) few
-    (slice_get_read grown (length grown) c.args.cell c.index_mut.result.now refl there c.index_mut.ensures.value) c.reserve.ensures.kept c.reserve.ensures.rise
+    (slice_get_read grown (length grown) c.args.cell c.index_mut.result.now refl there c.index_mut.ensures.value) c.reserve.ensures.kept c.reserve.ensures.rise c.reserve.ensures.sorted
     e (kind_by c.args.writes) c.args.task c.index.result.now c.index_mut-2.result.now c.keep.new.log c.keep.new.places.english c.keep.new.places.hebrew
     (f.count + 1) steps p.task_is p.kind_is
     (slice_get_read doers (length doers) c.args.task c.index.result.now refl lt c.index.ensures) there
