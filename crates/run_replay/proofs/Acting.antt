@@ -10,11 +10,11 @@ use Rattle.fut_base.specs.declared.record.Value.{Value}
 use Rattle.fut_base.specs.declared.event.Event.{Event}
 use Rattle.fut_base.specs.declared.event.Action.{Action}
 use Rattle.fut_base.specs.declared.event.Action.TheVariants.{Reads, Writes, Spawns, Creates, Syncs, Gets, Ends}
-use Rattle.fut_base.specs.Dag.{block_after}
+use Rattle.fut_base.specs.Dag.{Among, block_after}
 use Rattle.fut_base.specs.Sound.{strands_by, value_by}
 use Rattle.fut_syntax.specs.Trees as tree
 use Rattle.fut_check.specs.Items.{IsWellTyped}
-use Rattle.task_machine.specs.Machine.{Machine, Running, opening, begins, strand_after, acted, child_of, cells_after, after, IsStep, creates, create_count}
+use Rattle.task_machine.specs.Machine.{Machine, Running, opening, begins, strand_after, acted, child_of, cells_after, after, IsStep, Permits, creates, create_count}
 use Rattle.task_machine.proofs.Leading.{leads_further}
 use Rattle.task_types.specs.Typed.{ArgsFit, ActionFits, any_future}
 use Rattle.task_types.specs.Running.{Passes}
@@ -24,8 +24,10 @@ use Rattle.task_code.specs.Tasks.{IsStill}
 use Rattle.run_replay.specs.declared.line.Line.{Line}
 use Rattle.access_shards.specs.Histories.{IsInStep}
 use Rattle.run_laws.specs.Ready.{ready_by, ready_past, ready_of}
+use Rattle.run_laws.proofs.Ready.{ready_run}
+use Rattle.run_replay.specs.Ready.{IsNextChild, IsRing, StandsIn, tasks_by}
 use Rattle.run_replay.specs.Replays.{ReplayNow, IsLineOf, AreLinesOf, IsReplayOf, AreBegun, StillAt, Takes, Finds, CanAct, IsLegalAct, creates_by}
-use Rattle.run_replay.proofs.Lining.{task_of_line, set_line, add_lines, set_length}
+use Rattle.run_replay.proofs.Lining.{task_of_line, set_line, add_lines, set_length, count_lines}
 use Rattle.run_replay.proofs.Finding.{in_step_further}
 
 not_some : {X : Type 0} (o : Option X) → is_some o ≡ false → o ≡ None
@@ -68,14 +70,34 @@ begun_lines P code r x (Creates which child kid cont args) lines typed of l fit 
     subst (λ z. AreLinesOf P code z (begins P which args kid child ∷ [])) (sym is)
     (record { args = args; task = b.state P typed of (fit which args (refl, refl)); which = b.which_is; ended = b.runs; strand = b.strand_is; future = b.future_is; block = b.block; value = b.value }, tt)
 
-begun_few : (code : Compiled) (future : ℕ) (a : Action) (lines : List Line) → AreBegun code future a lines → length lines ≤ 1
-begun_few code future (Reads _ _) lines b = let e = ap length b in omega (arith, e)
-begun_few code future (Writes _ _) lines b = let e = ap length b in omega (arith, e)
-begun_few code future (Syncs _) lines b = let e = ap length b in omega (arith, e)
-begun_few code future (Gets _ _ _) lines b = let e = ap length b in omega (arith, e)
-begun_few code future (Ends _) lines b = let e = ap length b in omega (arith, e)
-begun_few code future (Spawns _ _ _ _ _) lines (line, is, b) = let e = ap length is in omega (arith, e)
-begun_few code future (Creates _ _ _ _ _) lines (line, is, b) = let e = ap length is in omega (arith, e)
+-- they are as many as the tasks that it begins
+begun_count : (code : Compiled) (future : ℕ) (a : Action) (lines : List Line) → AreBegun code future a lines → length lines ≡ tasks_by a
+begun_count code future (Reads _ _) lines b = ap length b
+begun_count code future (Writes _ _) lines b = ap length b
+begun_count code future (Syncs _) lines b = ap length b
+begun_count code future (Gets _ _ _) lines b = ap length b
+begun_count code future (Ends _) lines b = ap length b
+begun_count code future (Spawns _ _ _ _ _) lines (line, is, b) = ap length is
+begun_count code future (Creates _ _ _ _ _) lines (line, is, b) = ap length is
+
+few_begun : (a : Action) → tasks_by a ≤ 1
+few_begun (Reads _ _) = omega arith
+few_begun (Writes _ _) = omega arith
+few_begun (Syncs _) = omega arith
+few_begun (Gets _ _ _) = omega arith
+few_begun (Ends _) = omega arith
+few_begun (Spawns _ _ _ _ _) = omega arith
+few_begun (Creates _ _ _ _ _) = omega arith
+
+-- a child that the machine permits has the next number
+pub next_child : (m : Machine) (r : Running) (a : Action) (tasks : ℕ) → tasks ≡ length m.tasks → Permits m r a → IsNextChild tasks a
+next_child m r (Reads _ _) tasks is may = tt
+next_child m r (Writes _ _) tasks is may = tt
+next_child m r (Syncs _) tasks is may = tt
+next_child m r (Gets _ _ _) tasks is may = tt
+next_child m r (Ends _) tasks is may = tt
+next_child m r (Spawns _ _ _ _ _) tasks is may = may.0 ∙ sym is
+next_child m r (Creates _ _ _ _ _) tasks is may = may.0 ∙ sym is
 
 -- ---- a step
 
@@ -110,8 +132,11 @@ takes_step P code h m old new t a e r x k st present runs can =
     } in
     let begun = begun_lines P code r k.before a k.begun x.typed x.code_is l (λ which args p. children_fit P h m own n which args x.typed x.leads step p) k.are_begun in
     let lines = add_lines P code (slice_set old.lines t k.after) k.begun (slice_set m.tasks t (acted r can.stop a)) (child_of P r a) (set_line P code old.lines m.tasks t k.after (acted r can.stop a) x.lines line) begun in
-    let more = begun_few code k.before.future a k.begun k.are_begun in
+    let more = few_begun a in
     let size = ap length k.lines ∙ (length-append (slice_set old.lines t k.after) k.begun ∙ ap (λ s. s + length k.begun) (set_length old.lines t k.after)) in
+    let count : length new.lines ≡ length old.lines + tasks_by a = size ∙ ap (λ s. length old.lines + s) (begun_count code k.before.future a k.begun k.are_begun) in
+    let there : Among t (ready_of h) = (ready_run P h m t x.leads).1 (r, (present, runs)) in
+    let ring = k.ready (length old.lines) (ready_of h) (record { ring = x.ready; there = there }) (next_child m r a (length old.lines) (count_lines P code old.lines m.tasks x.lines) can.permits) in
     let few = x.few in
     let made = x.made in
     let two = strands_few a in
@@ -129,8 +154,8 @@ takes_step P code h m old new t a e r x k st present runs can =
         strands = k.strands ∙ ap (λ s. s + strands_by a) x.strands;
         entries = k.entries ∙ (ap (λ s. s + 1) x.entries ∙ sym (longer h own));
         creates = k.creates_are ∙ (ap (λ s. s + creates_by (creates a)) x.creates ∙ sym (creates_further h own));
-        ready = k.ready ∙ (ap (ready_by t a) x.ready ∙ sym (ready_further h own));
-        few = omega (arith, more, size, few, one);
+        ready = subst (λ ts. IsRing (length new.lines) ts new.ready) (sym (ready_further h own)) (subst (λ s. IsRing s (ready_by t a (ready_of h)) new.ready) (sym count) ring);
+        few = omega (arith, more, count, few, one);
         made = omega (arith, made, two, one, strands);
         found = subst (λ (d : Event). Finds old.finder new.finder d) is k.finds h x.found (in_step_further P h m n own x.leads step x.found.steps);
       },
@@ -151,3 +176,12 @@ may_find code now t a x e k present is =
   where
     at : ℕ → ℕ → Action → Event
     at t s a = record { task = t; strand = s; action = a }
+
+-- the task stands in the ring of its run, and its child has the next number
+pub stands_in : (code : Compiled) (now : ReplayNow) (t : ℕ) (a : Action) (k : IsLegalAct code now t a)
+    → StandsIn (length now.lines) (ready_of k.history) now.ready t × IsNextChild (length now.lines) a
+stands_in code now t a k =
+    let x = k.replay in (
+      record { ring = x.ready; there = (ready_run k.program k.history k.machine t x.leads).1 (k.task, k.running) },
+      next_child k.machine k.task a (length now.lines) (count_lines k.program code now.lines k.machine.tasks x.lines) k.can.permits,
+    )

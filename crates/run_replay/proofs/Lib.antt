@@ -1,5 +1,5 @@
 pub mod Outcome
-pub mod Readying
+pub mod Rings
 pub mod Lining
 pub mod Acting
 pub mod Starting

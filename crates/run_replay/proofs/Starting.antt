@@ -1,7 +1,6 @@
 -- The opening state, the first task, and a run that stands still.
-use Rattle.std.proofs.Common.{◌≡◌, ℕ, zero, suc, ◌+◌, List, [], ◌∷◌, ◌++◌, length, replicate, refl, sym, ap, ◌∙◌, subst, arith}
-use Rattle.std.specs.Prelude.{Some, slice_get, slice_set, reverse, ℤ, pos}
-use Rattle.std.proofs.lemmas.List.{reverse-append}
+use Rattle.std.proofs.Common.{◌≡◌, ℕ, ◌+◌, List, [], ◌∷◌, ◌++◌, length, replicate, refl, sym, ap, ◌∙◌, subst, arith}
+use Rattle.std.specs.Prelude.{Option, Some, None, MatchOption, IfSome, slice_get, slice_set, ℤ, pos}
 use Rattle.std.proofs.lemmas.Option.{same_Some}
 use Rattle.fut_base.specs.declared.event.Event.{Event}
 use Rattle.fut_base.specs.declared.event.Action.{Action}
@@ -10,7 +9,7 @@ use Rattle.fut_base.specs.Sound.{strands_by, value_by}
 use Rattle.fut_syntax.specs.Trees as tree
 use Rattle.fut_check.specs.Items.{IsWellTyped}
 use Rattle.task_machine.specs.Texts.{main_of}
-use Rattle.task_machine.specs.Machine.{Machine, Running, opening, begins, strand_after, cells_after, creates}
+use Rattle.task_machine.specs.Machine.{Machine, Running, EachEnded, opening, begins, strand_after, cells_after, creates}
 use Rattle.task_types.proofs.Mains.{main_fits}
 use Rattle.task_types.specs.Typed.{any_future}
 use Rattle.task_code.specs.Flat.{Compiled, IsCodeOf}
@@ -18,15 +17,17 @@ use Rattle.task_code.specs.Tasks.{IsStill}
 use Rattle.race_finder.specs.declared.finder.Finder.{Finder}
 use Rattle.race_finder.specs.Finding.{IsFinderOf}
 use Rattle.run_laws.specs.Laws.{IsFirst}
-use Rattle.run_laws.specs.Ready.{ready_by}
-use Rattle.run_laws.proofs.Ready.{ready_is_first}
+use Rattle.run_laws.specs.Ready.{ready_of}
+use Rattle.run_laws.proofs.Ready.{first_may_go_on, none_is_ready, ready_is_first}
 use Rattle.run_replay.specs.declared.line.Line.{Line}
+use Rattle.run_replay.specs.Next.{MayGoOn}
+use Rattle.run_replay.specs.Ready.{Links, IsRing, Reorders}
 use Rattle.run_replay.specs.Replays.{ReplayNow, IsLineOf, AreLinesOf, IsReplayOf, KeepsLine, KeepsLineAt, StandsStill, ActsAs, ActsAt, AreBegun, Begins, StillAt, Takes, Finds, FindsStill, creates_by}
 use Rattle.run_replay.proofs.Lining.{kept_lines, kept_length, set_twice, get_set_here}
 use Rattle.task_machine.proofs.Places.{get_below}
 
 pub begins_run : (P : tree.Program) (code : Compiled) (main : Line) (now : ReplayNow) → IsWellTyped P → IsCodeOf P code → Begins code code.main [] 0 0 main → IsFinderOf [] now.finder
-    → now.lines ≡ main ∷ [] → now.cells ≡ replicate code.cells (pos 0) → now.ready ≡ 0 ∷ [] → now.entries ≡ 0 → now.creates ≡ 0 → now.strands ≡ 1
+    → now.lines ≡ main ∷ [] → now.cells ≡ replicate code.cells (pos 0) → IsRing 1 (0 ∷ []) now.ready → now.entries ≡ 0 → now.creates ≡ 0 → now.strands ≡ 1
     → IsReplayOf P code [] now (opening P)
 begins_run P code main now typed of b found lines cells ready entries creates strands =
     let size = ap length lines in
@@ -51,7 +52,7 @@ begins_run P code main now typed of b found lines cells ready entries creates st
       strands = strands;
       entries = entries;
       creates = creates;
-      ready = ap reverse ready;
+      ready = subst (λ n. IsRing n (0 ∷ []) now.ready) (sym size) ready;
       few = omega (arith, size, entries);
       made = omega (arith, strands, entries);
       found = found;
@@ -59,14 +60,17 @@ begins_run P code main now typed of b found lines cells ready entries creates st
 
 -- ---- the first task
 
-last_first : (xs : List ℕ) (i t : ℕ) → i + 1 ≡ length xs → slice_get xs i ≡ Some t → (ts : List ℕ) × (reverse xs ≡ t ∷ ts)
-last_first [] i t e h = cc
-last_first (x ∷ []) zero t e h = ([], (let same : x ≡ t = same_Some x t h in ap (λ z. z ∷ []) same))
-last_first (x ∷ []) (suc i) t e h = absurd (omega (arith, e))
-last_first (x ∷ y ∷ ys) zero t e h = absurd (omega (arith, e))
-last_first (x ∷ y ∷ ys) (suc i) t e h =
-    let r = last_first (y ∷ ys) i t (omega (arith, e)) h in
-    (r.0 ++ x ∷ [], reverse-append (x ∷ []) (y ∷ ys) ∙ ap (λ l. l ++ x ∷ []) r.1)
+pub first_ready : (P : tree.Program) (code : Compiled) (h : List Event) (now : ReplayNow) (m : Machine) (o : Option ℕ) → IsReplayOf P code h now m
+    → MatchOption o (ready_of h ≡ []) (λ t. (ts : List ℕ) × (ready_of h ≡ t ∷ ts)) → MatchOption o (EachEnded m.tasks) (λ t. (r : Running) × IsFirst h m t r)
+first_ready P code h now m None x k = (none_is_ready P h m x.leads).0 k
+first_ready P code h now m (Some t) x k = ready_is_first P h m t k.0 x.leads k.1
+
+pub first_goes_on : (P : tree.Program) (code : Compiled) (h : List Event) (now : ReplayNow) (m : Machine) (o : Option ℕ) → IsReplayOf P code h now m
+    → MatchOption o (ready_of h ≡ []) (λ t. (ts : List ℕ) × (ready_of h ≡ t ∷ ts)) → IfSome o (λ t. MayGoOn P m t)
+first_goes_on P code h now m None x k = tt
+first_goes_on P code h now m (Some t) x k =
+    let first = ready_is_first P h m t k.0 x.leads k.1 in
+    (first.0, first.1.running, first_may_go_on P h m t first.0 x.typed x.leads first.1)
 
 -- ---- a run that stands still
 
@@ -84,7 +88,7 @@ still_by code old new t k cells ready entries creates strands finds P h m x =
       strands = strands ∙ x.strands;
       entries = entries ∙ x.entries;
       creates = creates ∙ x.creates;
-      ready = ap reverse ready ∙ x.ready;
+      ready = subst (λ n. IsRing n (ready_of h) new.ready) (sym size) (subst (IsRing (length old.lines) (ready_of h)) (sym ready) x.ready);
       few = omega (arith, size, few, entries);
       made = omega (arith, made, strands, entries);
       found = finds h x.found;
@@ -115,7 +119,7 @@ at t s a = record { task = t; strand = s; action = a }
 
 pub takes_by : (code : Compiled) (old new : ReplayNow) (mid : List Line) (t : ℕ) (a : Action) (e : Event) (begun : List Line) (x : Line)
     → slice_get old.lines t ≡ Some x → KeepsLineAt code old.lines mid t → StillAt code mid t → ActsAt code mid new.lines t a begun → AreBegun code x.future a begun → e ≡ record { task = t; strand = x.strand; action = a }
-    → new.cells ≡ cells_after a old.cells → new.strands ≡ old.strands + strands_by a → new.entries ≡ old.entries + 1 → new.creates ≡ old.creates + creates_by (creates a) → reverse new.ready ≡ ready_by t a (reverse old.ready)
+    → new.cells ≡ cells_after a old.cells → new.strands ≡ old.strands + strands_by a → new.entries ≡ old.entries + 1 → new.creates ≡ old.creates + creates_by (creates a) → Reorders old.ready new.ready t a
     → Finds old.finder new.finder e → Takes code old new t a e
 takes_by code old new mid t a e begun x present k st w are event cells strands entries creates ready finds =
     let same : k.before ≡ x = same_Some k.before x (sym k.present ∙ present) in
@@ -139,16 +143,7 @@ takes_by code old new mid t a e begun x present k st w are event cells strands e
       finds = finds;
     }
 
-pub first_of : (P : tree.Program) (code : Compiled) (h : List Event) (now : ReplayNow) (m : Machine) (items : List ℕ) (i t : ℕ) → IsReplayOf P code h now m → items ≡ now.ready → i + 1 ≡ length items → slice_get items i ≡ Some t → (r : Running) × IsFirst h m t r
-first_of P code h now m items i t x view at present =
-    let r = last_first items i t at present in
-    ready_is_first P h m t r.0 x.leads (sym x.ready ∙ (ap reverse (sym view) ∙ r.1))
-
-pub none_left : (xs : List ℕ) → length xs ≡ 0 → reverse xs ≡ []
-none_left [] h = refl
-none_left (x ∷ xs) h = absurd (omega (arith, h))
-
 -- a run of these parts
-abbrev pub now_of : List Line → List ℤ → List ℕ → ℕ → ℕ → ℕ → Finder → ReplayNow
+abbrev pub now_of : List Line → List ℤ → Links → ℕ → ℕ → ℕ → Finder → ReplayNow
 now_of lines cells ready entries creates strands finder =
     record { lines = lines; cells = cells; ready = ready; entries = entries; creates = creates; strands = strands; finder = finder }

@@ -1,5 +1,5 @@
 -- A run beside the machine of the definitions.
-use Rattle.std.specs.Prelude.{◌≡◌, ℕ, ◌+◌, ◌*◌, ◌<◌, ◌≤◌, Bool, true, false, not, List, [], ◌∷◌, ◌++◌, length, reverse, slice_get, slice_set, Option, Some, None, is_some, IsSome, ℤ, vec_len, vec_capacity}
+use Rattle.std.specs.Prelude.{◌≡◌, ℕ, ◌+◌, ◌*◌, ◌<◌, ◌≤◌, Bool, true, false, not, List, [], ◌∷◌, ◌++◌, length, slice_get, slice_set, Option, Some, None, is_some, IsSome, ℤ, vec_len, vec_capacity}
 use Rattle.fut_base.specs.declared.limits.TheConstants.{MOST_LOCAL_STEPS}
 use Rattle.fut_base.specs.declared.record.Value.{Value}
 use Rattle.fut_base.specs.declared.event.Event.{Event}
@@ -20,15 +20,16 @@ use Rattle.task_code.specs.declared.task.Wish.TheVariants as wish
 use Rattle.access_shards.specs.Histories.{IsInStep}
 use Rattle.race_finder.specs.declared.finder.Finder.{Finder}
 use Rattle.race_finder.specs.Finding.{IsFinderOf}
-use Rattle.run_laws.specs.Ready.{ready_by, ready_of}
+use Rattle.run_laws.specs.Ready.{ready_of}
 use Rattle.run_replay.specs.declared.line.Line.{Line}
+use Rattle.run_replay.specs.Ready.{Links, IsRing, Reorders}
 
--- what a run shows: its tasks by number, the cells, the tasks that have not ended, the first in English order last, how many entries,
--- creates and strands were made, and the finder of its races
+-- what a run shows: its tasks by number, the cells, the ring of the tasks that have not ended, how many entries, creates and strands
+-- were made, and the finder of its races
 pub record ReplayNow : Type 0 where
   pub lines : List Line
   pub cells : List ℤ
-  pub ready : List ℕ
+  pub ready : Links
   pub entries : ℕ
   pub creates : ℕ
   pub strands : ℕ
@@ -62,7 +63,7 @@ pub record IsReplayOf (P : tree.Program) (code : Compiled) (h : List Event) (now
   pub strands : now.strands ≡ m.strands
   pub entries : now.entries ≡ length h
   pub creates : now.creates ≡ create_count h
-  pub ready : reverse now.ready ≡ ready_of h
+  pub ready : IsRing (length now.lines) (ready_of h) now.ready
   pub few : length now.lines ≤ now.entries + 1
   pub made : now.strands ≤ 2 * now.entries + 1
   pub found : IsFinderOf h now.finder
@@ -212,7 +213,7 @@ pub record Takes (code : Compiled) (old new : ReplayNow) (t : ℕ) (a : Action) 
   pub strands : new.strands ≡ old.strands + strands_by a
   pub entries : new.entries ≡ old.entries + 1
   pub creates_are : new.creates ≡ old.creates + creates_by (creates a)
-  pub ready : reverse new.ready ≡ ready_by t a (reverse old.ready)
+  pub ready : Reorders old.ready new.ready t a
   pub finds : Finds old.finder new.finder e
 
 -- a task of the machine stands at a wish that an action answers, and may act so

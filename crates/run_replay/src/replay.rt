@@ -17,7 +17,7 @@ ghost use Rattle.run_replay.specs.Next.{Goes, is_create, IsBar, IsNext, MayGo, M
 ghost use Rattle.run_replay.specs.Replays.{HaveEnded, IsOn, is_running, RunsStill, value_at, CanAct, IsBarred, IsEvent, IsFree, IsFreeWish, IsLegalAct, IsReplayOf, IsSomeReplay, RunsAt, StandsStill, StillAt, Takes};
 
 use crate::line::{Line, begin, begin_child};
-use crate::ready::reorder;
+use crate::ready::Ring;
 use crate::table::{commit, creates_of, give_room, strands_of, write};
 use fut_base::acts::copy_of;
 use fut_base::limits::{MOST_ENTRIES, MOST_LOCAL_STEPS};
@@ -40,13 +40,13 @@ pub enum Next {
     NoMemory,
 }
 
-/// A run so far, with its races. `ready` has the tasks that have not ended, the first in English order last.
+/// A run so far, with its races. `ready` has the tasks that have not ended.
 #[derive(Drop)]
 pub struct Replay {
     alloc: Global,
     lines: Vec<Line>,
     cells: Vec<i64>,
-    ready: Vec<u32>,
+    ready: Ring,
     entries: u32,
     creates: u32,
     strands: u64,
@@ -54,6 +54,7 @@ pub struct Replay {
 }
 
 impl Model for Replay {
+    ghost use Rattle.run_replay.specs.Ready.{links_of};
     ghost use Rattle.run_replay.specs.Replays.{ReplayNow};
 
     ghost Value = { ReplayNow };
@@ -61,7 +62,7 @@ impl Model for Replay {
     ghost view = { λ r. record {
       lines = r.lines.items;
       cells = r.cells.items;
-      ready = r.ready.items;
+      ready = links_of r.ready;
       entries = r.entries;
       creates = r.creates;
       strands = r.strands;
@@ -96,8 +97,7 @@ impl Replay {
         let mut lines = Vec::new(alloc);
         lines.push(main)?;
         let cells = vec![in alloc; 0; code.cells() as usize]?;
-        let mut ready = Vec::new(alloc);
-        ready.push(0)?;
+        let ready = Ring::start(alloc)?;
         let finder = Finder::start(alloc)?;
         Ok(Replay {
             alloc,
@@ -136,11 +136,7 @@ impl Replay {
         ensures may_go_on { (P : tree.Program) (code : Compiled) (h : List Event) (m : Machine) → IsReplayOf P code h self.now m
             → IfSome result (λ t. MayGoOn P m t) }
     {
-        let count = self.ready.len();
-        if count == 0 {
-            return None;
-        }
-        Some(self.ready[count - 1])
+        self.ready.first()
     }
 
     /// How many entries were made.
@@ -335,9 +331,9 @@ impl Replay {
         let child = begin_child(self.alloc, code, self.lines[place].future, &act)?;
         let own = copy_of(self.alloc, task, strand, &act)?;
         give_room(&mut self.lines, code, place)?;
-        self.ready.reserve(1)?;
+        self.ready.reserve()?;
         self.finder.take(&own)?;
-        reorder(&mut self.ready, task, &act);
+        self.ready.reorder(task, &act);
         write(&mut self.cells, &act);
         self.strands += strands_of(&act);
         self.creates += creates_of(&act);

@@ -218,3 +218,69 @@ fn first_tasks_are_named(rt: HostRuntime) -> Result<(), Fail> {
     }
     Ok(())
 }
+
+/// Three children end with 2, while `main` waits for them.
+const THREE: &str =
+    "cells a[1]; task kid() int { return 2; } task main() int { spawn kid(); spawn kid(); spawn kid(); sync; return 0; }";
+
+fn entry(task: u32, strand: u32, act: Act) -> Entry {
+    Entry { task, strand, act }
+}
+
+fn spawn(alloc: Global, child: u32, kid: u32, cont: u32) -> Act {
+    Act::Spawn {
+        code: 0,
+        child,
+        kid,
+        cont,
+        args: Listing::make(alloc),
+    }
+}
+
+fn end(value: i64) -> Act {
+    Act::End {
+        value: Value::Int(value),
+    }
+}
+
+/// A legal run of it in which the second child ends first, then the third, and then the first.
+fn first_ends_last(alloc: Global) -> [Entry; 8] {
+    [
+        entry(0, 0, spawn(alloc, 1, 1, 2)),
+        entry(0, 2, spawn(alloc, 2, 3, 4)),
+        entry(0, 4, spawn(alloc, 3, 5, 6)),
+        entry(2, 3, end(2)),
+        entry(3, 5, end(2)),
+        entry(1, 1, end(2)),
+        entry(0, 6, Act::Sync { strand: 7 }),
+        entry(0, 7, end(0)),
+    ]
+}
+
+#[test]
+fn tasks_leave_the_order(rt: HostRuntime) -> Result<(), Fail> {
+    let alloc = rt.alloc();
+    let text = THREE.as_bytes();
+    assert!(rt; text.len() < 8192);
+    let code = code_of(alloc, text)?;
+    let entries = first_ends_last(alloc);
+    let firsts = [
+        (0, Some(0)),
+        (1, Some(1)),
+        (2, Some(1)),
+        (3, Some(1)),
+        (4, Some(1)),
+        (5, Some(1)),
+        (6, Some(0)),
+        (7, Some(0)),
+        (8, None),
+    ];
+    for (count, first) in firsts {
+        assert_eq!(rt;
+            first_task(alloc, &code, &entries, count)?,
+            first,
+            "{count}"
+        );
+    }
+    Ok(())
+}

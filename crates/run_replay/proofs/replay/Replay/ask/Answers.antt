@@ -4,6 +4,7 @@ use Rattle.std.proofs.lemmas.Option.{slice_get_read}
 use Rattle.task_machine.proofs.Places.{get_below}
 use Rattle.run_replay.specs.contracts.replay.Replay.{the_view}
 use Rattle.run_replay.specs.declared.line.Line.{Line}
+use Rattle.run_replay.specs.Ready.{links_of}
 use Rattle.run_replay.specs.Replays.{ReplayNow, RunsAt, StandsStill, IsSomeReplay, IsReplayOf}
 use Rattle.run_replay.proofs.Lining.{get_set_here}
 use Rattle.run_replay.proofs.Starting.{still_by, now_of}
@@ -28,7 +29,7 @@ returns-clause-still c =
     let present = slice_get_read lines (length lines) t x refl (get_below lines t running.0 running.1) c.index_mut-line.ensures.value in
     let task = c.advance.ensures in
     let y : Line = record { task = c.advance.new.self; strand = x.strand; future = x.future; block = x.block; value = x.value } in
-    let new : ReplayNow = (now_of (slice_set lines t y) c.self.inside.cells.items c.self.inside.ready.items c.self.inside.entries c.self.inside.creates c.self.inside.strands c.self.inside.finder) in
+    let new : ReplayNow = (now_of (slice_set lines t y) c.self.inside.cells.items (links_of c.self.inside.ready) c.self.inside.entries c.self.inside.creates c.self.inside.strands c.self.inside.finder) in
     subst (λ v. StandsStill c.args.code.now v new) c.self.view_is
     (still_by c.args.code.now (the_view c.self.inside) new t
     (record {
