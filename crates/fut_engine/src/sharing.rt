@@ -4,6 +4,7 @@ ghost use Rattle.std.specs.Prelude.{◌≡◌};
 use crate::made::Made;
 use crate::naming::Naming;
 use crate::whole::Whole;
+use crossbeam_utils::Backoff;
 use fut_base::gate::Gate;
 use fut_base::ready::Ready;
 use std::alloc::Global;
@@ -49,12 +50,23 @@ impl<'a, J: Naming, C: Lends, G> Model for Sharing<'a, J, C, G> {
     ghost invariant = { λ s. C.lent s.code.now ≡ J.code };
 }
 
-/// The event of a task, made under the lock.
+// How often a worker tries to take the lock before it may sleep for it.
+const TRIES: u32 = 64;
+
+/// The event of a task, made under the lock. An event takes less time than to put a worker to sleep and to wake it, so a
+/// worker that finds the lock taken tries again for a while, with longer and longer pauses.
 fn event<J: Naming, C: Lends, G, R: Wait>(
     rt: &R,
     sharing: &Sharing<'_, J, C, G>,
     task: u32,
 ) -> Made {
+    let backoff = Backoff::new();
+    for _try in 0..TRIES {
+        if let Some(mut whole) = sharing.whole.try_lock() {
+            return whole.event(sharing.code.lend(), task);
+        }
+        backoff.snooze();
+    }
     sharing.whole.lock(rt).event(sharing.code.lend(), task)
 }
 
