@@ -178,7 +178,8 @@ may_find code now t a x e k present is =
     at t s a = record { task = t; strand = s; action = a }
 
 -- the task stands in the ring of its run, and its child has the next number
-pub stands_in : (code : Compiled) (now : ReplayNow) (t : ℕ) (a : Action) (k : IsLegalAct code now t a) → StandsIn (length now.lines) (ready_of k.history) now.ready t × IsNextChild (length now.lines) a
+pub stands_in : (code : Compiled) (now : ReplayNow) (t : ℕ) (a : Action) (k : IsLegalAct code now t a)
+    → StandsIn (length now.lines) (ready_of k.history) now.ready t × IsNextChild (length now.lines) a
 stands_in code now t a k =
     let x = k.replay in (
       record { ring = x.ready; there = (ready_run k.program k.history k.machine t x.leads).1 (k.task, k.running) },

@@ -36,7 +36,8 @@ further l from to t (x ∷ xs) g a =
     begin (y ∷ ys) h = (y + 1, h.0)
 
 -- where the way does not come back to its start, it does not come back to the next place
-apart_next : (l : Links) (from to x : ℕ) (xs : List ℕ) → LeadAlong l from (x ∷ xs) to → ((y : ℕ) → Among y (x ∷ xs) → from ≢ y + 1) → (y : ℕ) → Among y xs → x + 1 ≢ y + 1
+apart_next : (l : Links) (from to x : ℕ) (xs : List ℕ) → LeadAlong l from (x ∷ xs) to
+    → ((y : ℕ) → Among y (x ∷ xs) → from ≢ y + 1) → (y : ℕ) → Among y xs → x + 1 ≢ y + 1
 apart_next l from to x xs g alone y a e =
     let b = prior l (x + 1) to y xs g.1 a in
     let same : b.0 ≡ from = same_Some b.0 from (sym b.1.back ∙ (ap (slice_get l.prevs) (sym e) ∙ g.0.back)) in
@@ -64,7 +65,8 @@ module _ (l m : Links) (t c p : ℕ)
   put_rest [] from to n out g = keeps from to n g
   put_rest (x ∷ xs) from to n out g = (keeps from (x + 1) (λ e. out (inl (same_place x t e))) g.0, put_rest xs (x + 1) to n (λ a. out (inr a)) g.1)
 
-  put_along : (ts : List ℕ) (from to : ℕ) → to ≢ t + 1 → ((y : ℕ) → Among y ts → from ≢ y + 1) → Among t ts → LeadAlong l from ts to → LeadAlong m from (put_before t c ts) to
+  put_along : (ts : List ℕ) (from to : ℕ) → to ≢ t + 1 → ((y : ℕ) → Among y ts → from ≢ y + 1) → Among t ts
+      → LeadAlong l from ts to → LeadAlong m from (put_before t c ts) to
   put_along [] from to n alone a g = absurd a
   put_along (x ∷ xs) from to n alone a g =
       let later = apart_next l from to x xs g alone in
@@ -108,7 +110,8 @@ module _ (l m : Links) (t p n : ℕ)
     out_rest ys (y + 1) to (λ e. out (inl (same_place y t e))) nt (λ a. out (inr a)) g.1,
   )
 
-  out_along : (ts : List ℕ) (from to : ℕ) → from ≢ t + 1 → to ≢ t + 1 → ((y : ℕ) → Among y ts → from ≢ y + 1) → Among t ts → LeadAlong l from ts to → LeadAlong m from (without t ts) to
+  out_along : (ts : List ℕ) (from to : ℕ) → from ≢ t + 1 → to ≢ t + 1 → ((y : ℕ) → Among y ts → from ≢ y + 1) → Among t ts
+      → LeadAlong l from ts to → LeadAlong m from (without t ts) to
   out_along [] from to nf nt alone a g = absurd a
   out_along (x ∷ xs) from to nf nt alone a g =
       let later = apart_next l from to x xs g alone in
@@ -173,7 +176,8 @@ put_ring l t c back order s read =
           (λ v w n h. get_set_other l.prevs (back ∷ []) (t + 1) (c + 1) v w n h) first second order 0 0 (not_start t) (λ y a. not_start y) s.there s.ring.leads;
     }
 
-pub out_ring : (l : Links) (tasks t back next : ℕ) (order : List ℕ) → StandsIn tasks order l t → slice_get l.prevs (t + 1) ≡ Some back → slice_get l.nexts (t + 1) ≡ Some next
+pub out_ring : (l : Links) (tasks t back next : ℕ) (order : List ℕ) → StandsIn tasks order l t
+    → slice_get l.prevs (t + 1) ≡ Some back → slice_get l.nexts (t + 1) ≡ Some next
     → IsRing tasks (without t order) (record { nexts = slice_set l.nexts back next; prevs = slice_set l.prevs next back })
 out_ring l tasks t back next order s read_back read_next =
     let m : Links = record { nexts = slice_set l.nexts back next; prevs = slice_set l.prevs next back } in
@@ -198,7 +202,8 @@ pub none_first : (l : Links) (order : List ℕ) → LeadAlong l 0 order 0 → sl
 none_first l [] g h = refl
 none_first l (x ∷ xs) g h = absurd (let e : x + 1 ≡ 0 = same_Some (x + 1) 0 (sym g.0.on ∙ h) in omega (arith, e))
 
-pub some_first : (l : Links) (order : List ℕ) (next : ℕ) → LeadAlong l 0 order 0 → slice_get l.nexts 0 ≡ Some next → 0 < next → (ts : List ℕ) × (order ≡ (next - 1) ∷ ts)
+pub some_first : (l : Links) (order : List ℕ) (next : ℕ) → LeadAlong l 0 order 0 → slice_get l.nexts 0 ≡ Some next → 0 < next
+    → (ts : List ℕ) × (order ≡ (next - 1) ∷ ts)
 some_first l [] next g h lt = absurd (let e : 0 ≡ next = same_Some 0 next (sym g.on ∙ h) in omega (arith, e, lt))
 some_first l (x ∷ xs) next g h lt =
     let e : x + 1 ≡ next = same_Some (x + 1) next (sym g.0.on ∙ h) in

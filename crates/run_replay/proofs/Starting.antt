@@ -1,5 +1,5 @@
 -- The opening state, the first task, and a run that stands still.
-use Rattle.std.proofs.Common.{◌≡◌, ℕ, zero, suc, ◌+◌, List, [], ◌∷◌, ◌++◌, length, replicate, refl, sym, ap, ◌∙◌, subst, arith}
+use Rattle.std.proofs.Common.{◌≡◌, ℕ, ◌+◌, List, [], ◌∷◌, ◌++◌, length, replicate, refl, sym, ap, ◌∙◌, subst, arith}
 use Rattle.std.specs.Prelude.{Option, Some, None, MatchOption, IfSome, slice_get, slice_set, ℤ, pos}
 use Rattle.std.proofs.lemmas.Option.{same_Some}
 use Rattle.fut_base.specs.declared.event.Event.{Event}

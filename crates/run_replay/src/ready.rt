@@ -79,7 +79,8 @@ impl Ring {
 
     /// What an act of a task makes of the order.
     pub fn reorder(&mut self, task: u32, act: &Act)
-        requires stands { (tasks : ℕ) × (order : List ℕ) × StandsIn tasks order (links_of self.old) task × IsNextChild tasks (action_of act.now) × (tasks + 1 < 2 ^ 32) }
+        requires stands { (tasks : ℕ) × (order : List ℕ) × StandsIn tasks order (links_of self.old) task
+            × IsNextChild tasks (action_of act.now) × (tasks + 1 < 2 ^ 32) }
         requires place { HasPlace self.old }
         ensures { Reorders (links_of self.old) (links_of self.new) task (action_of act.now) }
     {
