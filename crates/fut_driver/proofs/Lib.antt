@@ -6,5 +6,6 @@ pub mod Consuming
 pub mod Endings
 pub mod Inputs
 pub mod Jobs
+pub mod Loading
 pub mod Naming
 pub mod Wordings

@@ -4,7 +4,7 @@ use Rattle.std.specs.List.{concat}
 
 -- a cell for each place of the grid
 abbrev pub cells_parts : ℕ → List (List ℕ)
-cells_parts n = codes "cells a[" ∷ (decimal (n * n) ∷ (codes "];\n" ∷ []))
+cells_parts places = codes "cells a[" ∷ (decimal places ∷ (codes "];\n" ∷ []))
 
 -- the first place of the first row
 abbrev pub corner_parts : List (List ℕ)
@@ -41,7 +41,7 @@ main_parts n =
 
 -- all parts of the text for a grid of n by n places
 abbrev pub load_parts : ℕ → List (List ℕ)
-load_parts n = cells_parts n ++ (corner_parts ++ (top_parts ++ (side_parts n ++ (inner_parts n ++ main_parts n))))
+load_parts n = cells_parts (n * n) ++ (corner_parts ++ (top_parts ++ (side_parts n ++ (inner_parts n ++ main_parts n))))
 
 -- the program text for a grid of n by n places
 abbrev pub load_text : ℕ → List ℕ
