@@ -1,5 +1,6 @@
 -- What is kept of reads where a run of them makes place for a new one.
-use Rattle.std.proofs.Common.{◌≡◌, ◌≢◌, ℕ, zero, suc, ◌+◌, ◌-◌, ◌<◌, ◌≤◌, Bool, true, false, List, [], ◌∷◌, ◌++◌, ◌⊎◌, inl, inr, subst, ap, sym, refl, ◌∙◌, length, length-append, take, drop, arith, true≢false}
+use Rattle.std.proofs.Common.{◌≡◌, ◌≢◌, ℕ, zero, suc, ◌+◌, ◌-◌, ◌<◌, ◌≤◌, Bool, true, false, List, [], ◌∷◌}
+use Rattle.std.proofs.Common.{◌++◌, ◌⊎◌, inl, inr, subst, ap, sym, refl, ◌∙◌, length, length-append, take, drop, arith, true≢false}
 use Rattle.std.proofs.lemmas.Bool.{cases_lt, cases_eq}
 use Rattle.std.proofs.lemmas.List.{take-append-drop}
 use Rattle.std.specs.Prelude.{◌↔◌}
@@ -21,7 +22,8 @@ use Rattle.access_shards.specs.Runs.{access_at, IsRow, IsRun, AreRun, EndsIn}
 use Rattle.access_shards.specs.Replacing.{AreLeft, IsReplaced}
 use Rattle.access_shards.proofs.Looking.{no_access}
 use Rattle.access_shards.proofs.Rising.{rise_on, one_rises, in_order_left}
-use Rattle.access_shards.proofs.Runs.{index_of, in_take, in_drop, of_take, of_drop, in_english_at, differ_at, in_english_take, in_english_drop, in_english_both, up_to, after, in_run, off_left, off_right}
+use Rattle.access_shards.proofs.Runs.{index_of, in_take, in_drop, of_take, of_drop, in_english_at, differ_at}
+use Rattle.access_shards.proofs.Runs.{in_english_take, in_english_drop, in_english_both, up_to, after, in_run, off_left, off_right}
 use Rattle.access_shards.proofs.Listing.{one_access}
 
 -- accesses in order that rise are in the English order
@@ -102,11 +104,13 @@ module _ (s : List Event) (table : List Strand) (new : Access) (known : ℕ) (en
 
   pub put_english : IsInEnglish s put
   put_english =
-      in_english_both s (take run.start row) (new ∷ drop run.end row) (in_english_take s run.start row listed)
-      ((λ b m. (let j = of_drop b row run.end m in (
-        subst (λ (z : Access). StandsFirst s at z.strand) j.3 (run_after j.0 j.1 j.2),
-        λ e. subst (IsApart s at) j.3 (run_right j.0 j.1 j.2) ([], sym e),
-      ))), in_english_drop s run.end row listed)
+      in_english_both s (take run.start row) (new ∷ drop run.end row) (in_english_take s run.start row listed) (
+        (λ b m. (let j = of_drop b row run.end m in (
+          subst (λ (z : Access). StandsFirst s at z.strand) j.3 (run_after j.0 j.1 j.2),
+          λ e. subst (IsApart s at) j.3 (run_right j.0 j.1 j.2) ([], sym e),
+        ))),
+        in_english_drop s run.end row listed,
+      )
       (λ a b ha hb. (let i = of_take a row run.start ha in
       elim hb [
         | inl e ↦ subst (λ (z : Access). StandsFirst s a.strand z.strand × (a.strand.number ≡ z.strand.number → ⊥)) e (
@@ -175,7 +179,7 @@ module _ (s : List Event) (table : List Strand) (new : Access) (known : ℕ) (en
             | inr ge ↦ absurd (k.1 (subst (λ (z : Access). ReachesBy (edges_of s) z.strand.number at.number) i.2 (run_reached i.0 ge (omega (arith, i.1, all)))))
           ])),
     );
-    order = in_order_left (take run.start row) (drop run.start row) (subst IsInOrder (sym (take-append-drop run.start row) ) (subst IsInOrder (sym e) order));
+    order = in_order_left (take run.start row) (drop run.start row) (subst IsInOrder (sym (take-append-drop run.start row)) (subst IsInOrder (sym e) order));
   })
 
   pub none_after : run.end ≡ length row → (a : Access) → Among a old → IsNotAfter (english_of s) a.strand at
