@@ -159,7 +159,8 @@ marked_at xs n place strand lt is order =
       );
     }
 
-pub those_at : (xs : List Access) (n place : ℕ) (strand : Strand) → n < length xs → (a : Access) → Among a (set xs n (record { place = place; strand = strand }))
+pub those_at : (xs : List Access) (n place : ℕ) (strand : Strand) → n < length xs → (a : Access)
+    → Among a (set xs n (record { place = place; strand = strand }))
     → Among a xs ⊎ (a.strand.number ≡ strand.number)
 those_at xs n place strand lt a h = elim (of_set xs n (record { place = place; strand = strand }) a lt h) [
   | inl e ↦ inr (sym (ap (λ (z : Access). z.strand.number) e))

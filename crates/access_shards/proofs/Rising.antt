@@ -137,7 +137,8 @@ in_order_left (x ∷ xs) ys h = ((λ b k. h.0 b (among_left b xs ys k)), in_orde
 
 -- those of accesses in order that are left rise with a new one that none of them is after
 pub rise_on : (s : List Event) (new : Access) (old left : List Access) → RiseInEnglish s old
-    → ((a : Access) → Among a old → IsNotAfter (english_of s) a.strand new.strand) → AreThoseApart s new.strand old left → ((a : Access) → Among a old → a.place < new.place) → RiseInEnglish s (left ++ new ∷ [])
+    → ((a : Access) → Among a old → IsNotAfter (english_of s) a.strand new.strand) → AreThoseApart s new.strand old left
+    → ((a : Access) → Among a old → a.place < new.place) → RiseInEnglish s (left ++ new ∷ [])
 rise_on s new old left rising none_after those before a b ha hb lt = elim (among_or a left (new ∷ []) ha) [
   | inl l ↦ (
       let k = (those.those a).0 l in
