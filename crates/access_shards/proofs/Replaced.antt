@@ -204,12 +204,12 @@ module _ (table : List Strand) (new : Access) (known : ℕ) (english hebrew : Li
       let listed = rise_english s old order reads.apart (reads.rising rises) in
       let run_is = are.is (λ _. record { order = order; each = λ a h. h }) in
       let those = ended s table new known english hebrew view old order reads.of.strands reads.unjoined all_known at_known old
-          itself listed ends run are.start_is
+      itself listed ends run are.start_is
       are.end_is run_is refl all in (
         record { left = take run.start old; those = those; after_is = is },
         (λ _. subst (RiseInEnglish s) (sym is) (rise_on s new old (take run.start old) (reads.rising rises)
             (none_after s table new known english hebrew view old order reads.of.strands reads.unjoined all_known at_known old
-                itself listed ends run are.start_is
+            itself listed ends run are.start_is
             are.end_is run_is all) those before)),
         subst (λ (l : List Access). AreSorted s after l) (sym none) (record { order = tt; those = inl refl }),
       )
@@ -223,7 +223,7 @@ module _ (table : List Strand) (new : Access) (known : ℕ) (english hebrew : Li
       let order = reads.of.order in
       let listed = rise_english s old order reads.apart (reads.rising rises) in
       let k = replaced s table new known english hebrew view old order reads.of.strands reads.unjoined all_known at_known old
-          itself listed ends run are.start_is
+      itself listed ends run are.start_is
       are.end_is (are.is (λ _. record { order = order; each = λ a h. h })) after sorted' (r order) e in
       (k.0, (λ y. absurd (true≢false (sym y))), k.1)
 
@@ -238,7 +238,7 @@ module _ (table : List Strand) (new : Access) (known : ℕ) (english hebrew : Li
         | inl none ↦ absurd (let p = ap (length {A = Access}) none in omega (arith, some, p))
         | inr same ↦ (
             let k = replaced s table new known english hebrew view old order reads.of.strands reads.unjoined all_known at_known
-                sorted same reads.listed.order ends
+            sorted same reads.listed.order ends
             run are.start_is are.end_is (are.is (λ _. record { order = order; each = λ a h. (same a).0 h })) after sorted' (r order) e in
             (k.0, (λ y. absurd (true≢false (sym y))), k.1))
       ]
