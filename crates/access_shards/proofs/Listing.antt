@@ -1,5 +1,6 @@
 -- Reads in the order of places, of which some are marked and left out.
-use Rattle.std.proofs.Common.{◌≡◌, ◌≢◌, ℕ, zero, suc, ◌+◌, ◌-◌, ◌==◌, ◌<◌, ◌≤◌, Bool, true, false, not, List, [], ◌∷◌, ◌++◌, ◌⊎◌, inl, inr, subst, ap, sym, refl, ◌∙◌, length, take, drop, get_or, set, cond, arith, true≢false}
+use Rattle.std.proofs.Common.{◌≡◌, ◌≢◌, ℕ, zero, suc, ◌+◌, ◌-◌, ◌==◌, ◌<◌, ◌≤◌, Bool, true, false, not, List, [], ◌∷◌}
+use Rattle.std.proofs.Common.{◌++◌, ◌⊎◌, inl, inr, subst, ap, sym, refl, ◌∙◌, length, take, drop, get_or, set, cond, arith, true≢false}
 use Rattle.std.proofs.lemmas.Bool.{cases_lt, cases_eq, eqb-true}
 use Rattle.std.proofs.lemmas.List.{get_or-set_same, get_or-set_other, length-set, take-append-drop}
 use Rattle.std.specs.Prelude.{◌↔◌, filter}
@@ -158,7 +159,8 @@ marked_at xs n place strand lt is order =
       );
     }
 
-pub those_at : (xs : List Access) (n place : ℕ) (strand : Strand) → n < length xs → (a : Access) → Among a (set xs n (record { place = place; strand = strand }))
+pub those_at : (xs : List Access) (n place : ℕ) (strand : Strand) → n < length xs → (a : Access)
+    → Among a (set xs n (record { place = place; strand = strand }))
     → Among a xs ⊎ (a.strand.number ≡ strand.number)
 those_at xs n place strand lt a h = elim (of_set xs n (record { place = place; strand = strand }) a lt h) [
   | inl e ↦ inr (sym (ap (λ (z : Access). z.strand.number) e))
@@ -188,11 +190,13 @@ mark_more number row start k old now next le was is =
       those = λ a ne. (
         (λ h. (
             let m = (is.those a ne).0 h in
-            let p = (was.those a ne).0 m.0 in
-            (p.0, λ j ge lt. elim (cases_eq j k) [
-              | inl e ↦ λ same. m.1 (same ∙ ap (λ i. (access_at row i).place) e)
-              | inr other ↦ p.1 j ge (omega (arith, lt, other))
-            ]))),
+            let p = (was.those a ne).0 m.0 in (
+              p.0,
+              λ j ge lt. elim (cases_eq j k) [
+                | inl e ↦ λ same. m.1 (same ∙ ap (λ i. (access_at row i).place) e)
+                | inr other ↦ p.1 j ge (omega (arith, lt, other))
+              ],
+            ))),
         (λ p. ((is.those a ne).1 ((was.those a ne).1 (p.0, λ j ge lt. p.1 j ge (omega (arith, lt))), p.1 k le (omega arith)))),
       );
     }
@@ -208,7 +212,8 @@ mark_start number row start old order =
 abbrev pub off_strand : ℕ → List Access → List Access
 off_strand number xs = filter (λ (b : Access). not (b.strand.number == number)) xs
 
-pub of_filter : (number : ℕ) (xs : List Access) (a : Access) → Among a (off_strand number xs) → Among a xs × (a.strand.number ≡ number → ⊥)
+pub of_filter : (number : ℕ) (xs : List Access) (a : Access) → Among a (off_strand number xs)
+    → Among a xs × (a.strand.number ≡ number → ⊥)
 of_filter number [] a h = absurd h
 of_filter number (x ∷ xs) a h =
     by_eq (λ t. Among a (cond (not t) (x ∷ off_strand number xs) (off_strand number xs)) → Among a (x ∷ xs) × (a.strand.number ≡ number → ⊥))

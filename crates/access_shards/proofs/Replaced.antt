@@ -1,5 +1,6 @@
 -- What is kept of reads where a run of them makes place for a new one.
-use Rattle.std.proofs.Common.{◌≡◌, ◌≢◌, ℕ, zero, suc, ◌+◌, ◌-◌, ◌<◌, ◌≤◌, Bool, true, false, List, [], ◌∷◌, ◌++◌, ◌⊎◌, inl, inr, subst, ap, sym, refl, ◌∙◌, length, length-append, take, drop, arith, true≢false}
+use Rattle.std.proofs.Common.{◌≡◌, ◌≢◌, ℕ, zero, suc, ◌+◌, ◌-◌, ◌<◌, ◌≤◌, Bool, true, false, List, [], ◌∷◌}
+use Rattle.std.proofs.Common.{◌++◌, ◌⊎◌, inl, inr, subst, ap, sym, refl, ◌∙◌, length, length-append, take, drop, arith, true≢false}
 use Rattle.std.proofs.lemmas.Bool.{cases_lt, cases_eq}
 use Rattle.std.proofs.lemmas.List.{take-append-drop}
 use Rattle.std.specs.Prelude.{◌↔◌}
@@ -21,7 +22,8 @@ use Rattle.access_shards.specs.Runs.{access_at, IsRow, IsRun, AreRun, EndsIn}
 use Rattle.access_shards.specs.Replacing.{AreLeft, IsReplaced}
 use Rattle.access_shards.proofs.Looking.{no_access}
 use Rattle.access_shards.proofs.Rising.{rise_on, one_rises, in_order_left}
-use Rattle.access_shards.proofs.Runs.{index_of, in_take, in_drop, of_take, of_drop, in_english_at, differ_at, in_english_take, in_english_drop, in_english_both, up_to, after, in_run, off_left, off_right}
+use Rattle.access_shards.proofs.Runs.{index_of, in_take, in_drop, of_take, of_drop, in_english_at, differ_at}
+use Rattle.access_shards.proofs.Runs.{in_english_take, in_english_drop, in_english_both, up_to, after, in_run, off_left, off_right}
 use Rattle.access_shards.proofs.Listing.{one_access}
 
 -- accesses in order that rise are in the English order
@@ -102,11 +104,13 @@ module _ (s : List Event) (table : List Strand) (new : Access) (known : ℕ) (en
 
   pub put_english : IsInEnglish s put
   put_english =
-      in_english_both s (take run.start row) (new ∷ drop run.end row) (in_english_take s run.start row listed)
-      ((λ b m. (let j = of_drop b row run.end m in (
-        subst (λ (z : Access). StandsFirst s at z.strand) j.3 (run_after j.0 j.1 j.2),
-        λ e. subst (IsApart s at) j.3 (run_right j.0 j.1 j.2) ([], sym e),
-      ))), in_english_drop s run.end row listed)
+      in_english_both s (take run.start row) (new ∷ drop run.end row) (in_english_take s run.start row listed) (
+        (λ b m. (let j = of_drop b row run.end m in (
+          subst (λ (z : Access). StandsFirst s at z.strand) j.3 (run_after j.0 j.1 j.2),
+          λ e. subst (IsApart s at) j.3 (run_right j.0 j.1 j.2) ([], sym e),
+        ))),
+        in_english_drop s run.end row listed,
+      )
       (λ a b ha hb. (let i = of_take a row run.start ha in
       elim hb [
         | inl e ↦ subst (λ (z : Access). StandsFirst s a.strand z.strand × (a.strand.number ≡ z.strand.number → ⊥)) e (
@@ -141,7 +145,8 @@ module _ (s : List Event) (table : List Strand) (new : Access) (known : ℕ) (en
           let k = (those.those a).0 l in
           let i = index_of a row ((same a).1 k.0) in
           elim (cases_lt i.0 run.start) [
-            | inl lt ↦ among_left a (take run.start row) (new ∷ drop run.end row) (subst (λ z. Among z (take run.start row)) i.2 (in_take row run.start i.0 lt i.1))
+            | inl lt ↦ among_left a (take run.start row) (new ∷ drop run.end row)
+                (subst (λ z. Among z (take run.start row)) i.2 (in_take row run.start i.0 lt i.1))
             | inr ge ↦ elim (cases_lt i.0 run.end) [
               | inl lt ↦ absurd (k.1 (subst (λ (z : Access). ReachesBy (edges_of s) z.strand.number at.number) i.2 (run_reached i.0 ge lt)))
               | inr le ↦ among_right a (take run.start row) (new ∷ drop run.end row)
@@ -153,7 +158,8 @@ module _ (s : List Event) (table : List Strand) (new : Access) (known : ℕ) (en
     ],
   )
 
-  pub replaced : (after sorted : List Access) → IsReplaced row run.start run.end new old after → sorted ≡ put → IsOneMore s new old after × AreSorted s after sorted
+  pub replaced : (after sorted : List Access) → IsReplaced row run.start run.end new old after → sorted ≡ put
+      → IsOneMore s new old after × AreSorted s after sorted
   replaced after sorted r e =
       let those = left_apart r.left r.those in (
         record { left = r.left; those = those; after_is = r.after_is },
@@ -172,10 +178,11 @@ module _ (s : List Event) (table : List Strand) (new : Access) (known : ℕ) (en
           let i = index_of a row ((same a).1 k.0) in
           elim (cases_lt i.0 run.start) [
             | inl lt ↦ subst (λ z. Among z (take run.start row)) i.2 (in_take row run.start i.0 lt i.1)
-            | inr ge ↦ absurd (k.1 (subst (λ (z : Access). ReachesBy (edges_of s) z.strand.number at.number) i.2 (run_reached i.0 ge (omega (arith, i.1, all)))))
+            | inr ge ↦ absurd (k.1 (subst (λ (z : Access). ReachesBy (edges_of s) z.strand.number at.number) i.2
+                (run_reached i.0 ge (omega (arith, i.1, all)))))
           ])),
     );
-    order = in_order_left (take run.start row) (drop run.start row) (subst IsInOrder (sym (take-append-drop run.start row) ) (subst IsInOrder (sym e) order));
+    order = in_order_left (take run.start row) (drop run.start row) (subst IsInOrder (sym (take-append-drop run.start row)) (subst IsInOrder (sym e) order));
   })
 
   pub none_after : run.end ≡ length row → (a : Access) → Among a old → IsNotAfter (english_of s) a.strand at
@@ -196,11 +203,13 @@ module _ (table : List Strand) (new : Access) (known : ℕ) (english hebrew : Li
       let order = reads.of.order in
       let listed = rise_english s old order reads.apart (reads.rising rises) in
       let run_is = are.is (λ _. record { order = order; each = λ a h. h }) in
-      let those = ended s table new known english hebrew view old order reads.of.strands reads.unjoined all_known at_known old itself listed ends run are.start_is
+      let those = ended s table new known english hebrew view old order reads.of.strands reads.unjoined all_known at_known old
+      itself listed ends run are.start_is
       are.end_is run_is refl all in (
         record { left = take run.start old; those = those; after_is = is },
         (λ _. subst (RiseInEnglish s) (sym is) (rise_on s new old (take run.start old) (reads.rising rises)
-            (none_after s table new known english hebrew view old order reads.of.strands reads.unjoined all_known at_known old itself listed ends run are.start_is
+            (none_after s table new known english hebrew view old order reads.of.strands reads.unjoined all_known at_known old
+            itself listed ends run are.start_is
             are.end_is run_is all) those before)),
         subst (λ (l : List Access). AreSorted s after l) (sym none) (record { order = tt; those = inl refl }),
       )
@@ -213,7 +222,8 @@ module _ (table : List Strand) (new : Access) (known : ℕ) (english hebrew : Li
   keeps_copied rise listed_in sorted sorted' run rises ends are r e s view reads before =
       let order = reads.of.order in
       let listed = rise_english s old order reads.apart (reads.rising rises) in
-      let k = replaced s table new known english hebrew view old order reads.of.strands reads.unjoined all_known at_known old itself listed ends run are.start_is
+      let k = replaced s table new known english hebrew view old order reads.of.strands reads.unjoined all_known at_known old
+      itself listed ends run are.start_is
       are.end_is (are.is (λ _. record { order = order; each = λ a h. h })) after sorted' (r order) e in
       (k.0, (λ y. absurd (true≢false (sym y))), k.1)
 
@@ -227,7 +237,8 @@ module _ (table : List Strand) (new : Access) (known : ℕ) (english hebrew : Li
       elim reads.listed.those [
         | inl none ↦ absurd (let p = ap (length {A = Access}) none in omega (arith, some, p))
         | inr same ↦ (
-            let k = replaced s table new known english hebrew view old order reads.of.strands reads.unjoined all_known at_known sorted same reads.listed.order ends
+            let k = replaced s table new known english hebrew view old order reads.of.strands reads.unjoined all_known at_known
+            sorted same reads.listed.order ends
             run are.start_is are.end_is (are.is (λ _. record { order = order; each = λ a h. (same a).0 h })) after sorted' (r order) e in
             (k.0, (λ y. absurd (true≢false (sym y))), k.1))
       ]

@@ -136,8 +136,9 @@ in_order_left [] ys h = tt
 in_order_left (x ∷ xs) ys h = ((λ b k. h.0 b (among_left b xs ys k)), in_order_left xs ys h.1)
 
 -- those of accesses in order that are left rise with a new one that none of them is after
-pub rise_on : (s : List Event) (new : Access) (old left : List Access) → RiseInEnglish s old → ((a : Access) → Among a old → IsNotAfter (english_of s) a.strand new.strand)
-    → AreThoseApart s new.strand old left → ((a : Access) → Among a old → a.place < new.place) → RiseInEnglish s (left ++ new ∷ [])
+pub rise_on : (s : List Event) (new : Access) (old left : List Access) → RiseInEnglish s old
+    → ((a : Access) → Among a old → IsNotAfter (english_of s) a.strand new.strand) → AreThoseApart s new.strand old left
+    → ((a : Access) → Among a old → a.place < new.place) → RiseInEnglish s (left ++ new ∷ [])
 rise_on s new old left rising none_after those before a b ha hb lt = elim (among_or a left (new ∷ []) ha) [
   | inl l ↦ (
       let k = (those.those a).0 l in
@@ -168,8 +169,8 @@ readers_apart s past readers r a b ha hb lt path =
     (inl (subst (λ n. ReachesBy (edges_of s) n y.0.strand) x.2.number_is (subst (λ n. ReachesBy (edges_of s) a.strand.number n) y.2.number_is path)))
 
 -- no path leads from a kept read to another strand of one
-pub readers_unjoined : (s : List Event) (past : List (Touch Kind)) (readers : List Access) → IsRising past → IsLate (edges_of s) past → AreReaders s past readers
-    → AreUnjoined s readers
+pub readers_unjoined : (s : List Event) (past : List (Touch Kind)) (readers : List Access) → IsRising past → IsLate (edges_of s) past
+    → AreReaders s past readers → AreUnjoined s readers
 readers_unjoined s past readers rising late r a b ha hb ne path =
     let x = r.each a ha in
     let y = r.each b hb in

@@ -1,5 +1,6 @@
 -- What is known of a run while it is sought.
-use Rattle.std.proofs.Common.{◌≡◌, ◌≢◌, ℕ, zero, suc, ◌+◌, ◌-◌, ◌*◌, ◌/◌, ◌^◌, ◌==◌, if◌then◌else◌, ◌<◌, ◌≤◌, Bool, true, false, List, ◌⊎◌, inl, inr, subst, ap, sym, refl, ◌∙◌, length, arith, true≢false}
+use Rattle.std.proofs.Common.{◌≡◌, ◌≢◌, ℕ, zero, suc, ◌+◌, ◌-◌, ◌*◌, ◌/◌, ◌^◌, ◌==◌, if◌then◌else◌, ◌<◌, ◌≤◌}
+use Rattle.std.proofs.Common.{Bool, true, false, List, ◌⊎◌, inl, inr, subst, ap, sym, refl, ◌∙◌, length, arith, true≢false}
 use Rattle.std.proofs.lemmas.Bool.{cases_lt, cases_eq}
 use Rattle.fut_base.proofs.Cases.{by_eq}
 use Rattle.strand_tree.specs.declared.strand.Strand.{Strand}
@@ -171,7 +172,12 @@ looks_at english hebrew english' hebrew' at listed readers row span middle next 
 pub first_span : (english hebrew : List ℕ) (at : Strand) (row : List Access)
     → IsSpan english hebrew at row (record { floor = 0; start = 0; low = 0; high = length row })
 first_span english hebrew at row =
-    record { left = λ lt. absurd (omega (arith, lt)); first = λ lt. absurd (omega (arith, lt)); last = λ lt. absurd (omega (arith, lt)); right = λ lt. absurd (omega (arith, lt)) }
+    record {
+      left = λ lt. absurd (omega (arith, lt));
+      first = λ lt. absurd (omega (arith, lt));
+      last = λ lt. absurd (omega (arith, lt));
+      right = λ lt. absurd (omega (arith, lt));
+    }
 
 -- where the last access is up to the strand, the place of the strand is at the end
 pub last_low : (english hebrew : List ℕ) (at : Strand) (listed : Bool) (readers row : List Access) (next : Span)

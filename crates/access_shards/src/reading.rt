@@ -129,7 +129,13 @@ pub fn keep_read<J: Judge>(
     ensures judge { IsAsBefore J.Judge judge.old judge.new }
 {
     if rise && ends_in(readers.as_slice(), new.strand.future) {
-        let run = find_run(judge, new.strand, readers.as_slice(), readers.as_slice(), false)?;
+        let run = find_run(
+            judge,
+            new.strand,
+            readers.as_slice(),
+            readers.as_slice(),
+            false,
+        )?;
         if run.end == readers.len() {
             replace_end(readers, room, run.start, new);
             *sorted = Vec::new(*readers.allocator());
@@ -140,7 +146,13 @@ pub fn keep_read<J: Judge>(
         return Ok(false);
     }
     if is_listed(rise, readers, sorted, new.strand.future) {
-        let run = find_run(judge, new.strand, readers.as_slice(), sorted.as_slice(), true)?;
+        let run = find_run(
+            judge,
+            new.strand,
+            readers.as_slice(),
+            sorted.as_slice(),
+            true,
+        )?;
         replace_run(readers, room, sorted, run, new);
         return Ok(false);
     }

@@ -155,7 +155,11 @@ pub fn replace_run(
 
 /// Makes room for one more access in the list in the English order: where there is one, and where it would have to be made
 /// and the other list is full.
-pub fn reserve_sorted(rise: bool, readers: &Vec<Access>, sorted: &mut Vec<Access>) -> Result<(), NoMemory>
+pub fn reserve_sorted(
+    rise: bool,
+    readers: &Vec<Access>,
+    sorted: &mut Vec<Access>,
+) -> Result<(), NoMemory>
     ensures items { sorted.new.items ≡ sorted.old.items }
     ensures space { OnOk result (HasSpace rise readers.now sorted.new) }
     ensures len { vec_len sorted.new ≡ vec_len sorted.old }

@@ -197,14 +197,15 @@ fn reads_in_any_order(rt: HostRuntime) -> Result<(), Fail> {
     steps.push(Sync { at: 26, last: 25 })?;
     steps.push(Spawn(27))?;
     steps.push(Sync { at: 29, last: 28 })?;
-    for step in [1, 5, 7, 11, 13, 17, 19, 23, 29] {
+    for step in [1, 5, 7, 11] {
         let mut touches = Vec::new(rt.alloc());
-        for k in 0..30 {
-            touches.push(read((k * step + k / 10) % 30))?;
+        for k in 0..12 {
+            let child = 2 * (k * step % 12) + 1;
+            touches.push(read(if child == 3 { 25 } else { child }))?;
         }
-        touches.push(read(30))?;
-        touches.push(read(30))?;
-        touches.push(read(24))?;
+        for strand in [28, 30, 30, 24, 5, 30] {
+            touches.push(read(strand))?;
+        }
         assert!(rt; keeps_all(rt.alloc(), steps.as_slice(), touches.as_slice())?);
         touches.push(write(24))?;
         assert!(rt; keeps_all(rt.alloc(), steps.as_slice(), touches.as_slice())?);

@@ -81,7 +81,7 @@ returns-then-is_listed-clause-keeps g c =
     let run = c.in_ok-run-2.run' in
     let t = c.is_listed.ensures.tells c.if-is_listed.true in
     keeps_listed c.args.reach.now c.args.new K E H old c.replace_run-then-is_listed.new.readers.items c.requires.at_known c.requires.kept_known c.args.rise true
-    sorted c.replace_run-then-is_listed.new.sorted.items run t.1 t.3
+    sorted c.replace_run-then-is_listed.new.sorted.items run (omega (arith, t.1, c.args.sorted.now.ok.0)) t.3
     (subst (λ (l : List Access). AreRun E H c.args.new.strand true old l run) c.as_slice-then-is_listed-2.ensures.value
     (subst (λ (l : List Access). AreRun E H c.args.new.strand true l c.as_slice-then-is_listed-2.result.now run) c.as_slice-then-is_listed.ensures.value
     c.in_ok-run-2.ensures.run))
@@ -103,7 +103,7 @@ returns-clause-listed g c = λ l few. absurd (elim c.else-rise.branch [
       ∙ w.if-ends_in.false)
   | else-rise-via-else-rise w ↦ (
       let k = ends_sorted c.args.new.strand.future c.args.rise c.args.readers.now.items c.args.sorted.now.items w.if-rise.false l in
-      true≢false (sym (c.is_listed.ensures.always w.if-rise.false k.1 few k.0) ∙ c.if-is_listed.false))
+      true≢false (sym (c.is_listed.ensures.always w.if-rise.false (omega (arith, k.1, c.args.sorted.now.ok.0)) few k.0) ∙ c.if-is_listed.false))
 ])
 
 pub returns-clause-halves : goal.returns-clause-halves
@@ -113,5 +113,5 @@ returns-clause-halves g c = λ l few bits lt. absurd (elim c.else-rise.branch [
       ∙ w.if-ends_in.false)
   | else-rise-via-else-rise w ↦ (
       let k = ends_sorted c.args.new.strand.future c.args.rise c.args.readers.now.items c.args.sorted.now.items w.if-rise.false l in
-      true≢false (sym (c.is_listed.ensures.always w.if-rise.false k.1 few k.0) ∙ c.if-is_listed.false))
+      true≢false (sym (c.is_listed.ensures.always w.if-rise.false (omega (arith, k.1, c.args.sorted.now.ok.0)) few k.0) ∙ c.if-is_listed.false))
 ])

@@ -1,12 +1,13 @@
-use Rattle.std.proofs.Common.{◌∙◌, ap, sym, subst, refl, arith, option_to_list}
+use Rattle.std.proofs.Common.{◌∙◌, true, ap, sym, subst, refl, arith, option_to_list}
 use Rattle.std.proofs.lemmas.Result.{err_from_is_err_and}
 use Rattle.access_shards.specs.Finding.{FindsLast}
 use Rattle.reach_table.proofs.Reaching.{moved_on}
 use Rattle.access_shards.proofs.Replaced.{read_at}
-use Rattle.access_shards.specs.Logged.{reads_of}
+use Rattle.access_shards.specs.declared.kept.Kept.TheVariants.{Found}
+use Rattle.access_shards.specs.Logged.{Logged, KeepsOneMore, reads_of}
 use Rattle.access_shards.specs.Kept.{reading}
 use Rattle.access_shards.proofs.Counts.{asks_few, asks_none, asks_nothing}
-use Rattle.access_shards.proofs.Logging.{known_writer, known_readers, read_finds, read_keeps, strands_stay}
+use Rattle.access_shards.proofs.Logging.{known_writer, known_readers, found_stays, read_finds, read_keeps, strands_stay}
 use Rattle.access_shards.proofs.log.CellLog.read.Goals as goal
 
 pub unreached_writer-requires-clause-writer_known : goal.unreached_writer-requires-clause-writer_known
@@ -55,7 +56,9 @@ returns-clause-strands g c =
 pub returns-in-Some-clause-few : goal.returns-in-Some-clause-few
 returns-in-Some-clause-few g c =
     asks_none c.args.reach.now c.args.at c.args.place reading (g.J.Judge.known c.args.judge.now) (g.J.Judge.english c.args.judge.now)
-    (g.J.Judge.hebrew c.args.judge.now) c.args.self.now _ _ _ c.unreached_writer.ensures.asks refl refl
+    (g.J.Judge.hebrew c.args.judge.now) c.args.self.now
+    (record { kept = Found c.in-Some.first c.args.place; room = 0; rise = true; sorted = c.new.result.items })
+    (g.J.Judge.asked c.args.judge.now) (g.J.Judge.asked c.unreached_writer.new.judge) c.unreached_writer.ensures.asks refl refl
 
 pub returns-clause-few : goal.returns-clause-few
 returns-clause-few g c =
@@ -63,4 +66,16 @@ returns-clause-few g c =
     asks_few c.args.reach.now c.args.at c.args.place reading (g.J.Judge.known c.args.judge.now) (g.J.Judge.english c.args.judge.now)
     (g.J.Judge.hebrew c.args.judge.now) c.args.self.now _ c.self.inside.rise c.in-Clean.readers.items c.self.inside.sorted.items
     (ap (λ v. v.rise) c.self.view_is) (ap reads_of (sym same)) (ap (λ v. v.sorted) c.self.view_is)
-    _ _ _ c.unreached_writer.ensures.asks (returns-clause-kept g c) c.in_ok-self-inside.ensures.listed c.keep_read.ensures.halves
+    (g.J.Judge.asked c.args.judge.now) (g.J.Judge.asked c.unreached_writer.new.judge) (g.J.Judge.asked c.keep_read.new.judge)
+    c.unreached_writer.ensures.asks (returns-clause-kept g c)
+    (λ l few. c.in_ok-self-inside.ensures.listed l (omega (arith, few, c.self.inside.sorted.ok.0, c.in-Clean.readers.ok.0)))
+    (λ l few. c.in_ok-self-inside.ensures.halves l (omega (arith, few, c.self.inside.sorted.ok.0, c.in-Clean.readers.ok.0)))
+
+pub returns-in_default-clause-kept : goal.returns-in_default-clause-kept
+returns-in_default-clause-kept g c =
+    let K = g.J.Judge.known c.args.judge.now in
+    let E = g.J.Judge.english c.args.judge.now in
+    let H = g.J.Judge.hebrew c.args.judge.now in
+    subst (λ (l : Logged). KeepsOneMore c.args.reach.now c.args.at c.args.place reading K E H c.args.self.now l) (sym c.self.view_is)
+    (found_stays c.args.reach.now c.args.at c.args.place K E H reading c.args.self.now c.in_default.field-0 c.in_default.field-1
+    (ap (λ v. v.kept) (sym c.self.view_is) ∙ c.in_default.is))

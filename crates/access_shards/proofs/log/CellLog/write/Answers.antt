@@ -1,8 +1,8 @@
 use Rattle.std.proofs.Common.{◌∙◌, ap, sym, subst, refl}
 use Rattle.std.specs.Prelude.{Some, None}
-use Rattle.access_shards.specs.Kept.{all_kept}
+use Rattle.access_shards.specs.Kept.{writing, all_kept}
 use Rattle.access_shards.specs.Finding.{AllOnKnown, FindsLast}
-use Rattle.access_shards.proofs.Logging.{known_all, write_finds, write_keeps}
+use Rattle.access_shards.proofs.Logging.{known_all, found_stays, write_finds, write_keeps}
 use Rattle.access_shards.proofs.log.CellLog.write.Goals as goal
 
 pub last_unreached-requires-clause-kept_known : goal.last_unreached-requires-clause-kept_known
@@ -32,4 +32,10 @@ returns-clause-kept g c =
     (subst (λ l. FindsLast c.args.reach.now c.args.at K E H (all_kept c.in-Clean.writer l) None) c.as_slice.ensures.value
     (subst (λ o. FindsLast c.args.reach.now c.args.at K E H (all_kept c.in-Clean.writer c.as_slice.result.now) o) c.in_default-2.is
     c.in_ok-first.ensures.finds))
-    c.new.result c.new.ensures.items _ refl c.new-2.ensures.items
+    c.new-2.result c.new-2.ensures.items _ refl c.new-3.ensures.items
+
+pub returns-in_default-clause-kept : goal.returns-in_default-clause-kept
+returns-in_default-clause-kept g c =
+    found_stays c.args.reach.now c.args.at c.args.place (g.J.Judge.known c.args.judge.now) (g.J.Judge.english c.args.judge.now)
+    (g.J.Judge.hebrew c.args.judge.now) writing c.args.self.now c.in_default.field-0 c.in_default.field-1
+    (ap (λ v. v.kept) (sym c.self.view_is) ∙ c.in_default.is)
