@@ -36,10 +36,10 @@ pub record IsCounted (bound places events running waiting : ℕ) (b : Booked) : 
   pub jobs : running + b.taken ≡ 1 + b.given
   -- a job came in at each event, and whenever one went to wait
   pub events_took : events ≤ b.taken
-  -- so often did jobs go to wait: with all paces that is at most one more than twice the events
-  pub waits_paced : b.taken + b.paces ≤ 1 + 3 * events
-  -- the pace of each such task has one part
-  pub places_left : b.left + running ≡ places
+  -- so jobs went to wait as often as is left: with the paces of those that don't wait, at most one more than twice the events
+  pub waits_paced : b.taken + b.paces ≤ 1 + 3 * events + waiting
+  -- the pace of each task that has not ended has one part
+  pub places_left : b.left + running + waiting ≡ places
   -- each event makes one task at most
   pub few_tasks : running + waiting ≤ 1 + events
   pub few_events : events ≤ bound

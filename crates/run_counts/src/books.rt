@@ -107,26 +107,46 @@ impl<J: Run> Books<J> {
         hand.given += 1;
     }
 
-    /// A pace for a job that goes out.
-    pub fn fresh(&mut self, count: u64) -> Pace<J>
-        requires one { count ≤ 1 }
+    /// A new pace, of 1.
+    pub fn fresh(&mut self) -> Pace<J>
         requires left { 1 < self.old.left }
-        ensures pace { result ≡ count }
-        ensures paces { self.new.paces ≡ self.old.paces + count }
+        ensures pace { result ≡ 1 }
+        ensures paces { self.new.paces ≡ self.old.paces + 1 }
         ensures left { self.new.left + 1 ≡ self.old.left }
         ensures others { (self.new.given ≡ self.old.given) × (self.new.taken ≡ self.old.taken) × (self.new.rest ≡ self.old.rest) }
     {
-        self.paces.add(&mut self.left, count);
+        self.paces.add(&mut self.left, 1);
         Pace {
-            count,
-            share: self.left.split_off(1, count),
+            count: 1,
+            share: self.left.split_off(1, 1),
         }
     }
 
-    /// The pace of a job that comes in.
+    /// A pace is set to 0.
+    pub fn spend(&mut self, pace: &mut Pace<J>)
+        ensures pace { pace.new ≡ 0 }
+        ensures paces { self.new.paces + pace.old ≡ self.old.paces }
+        ensures others { (self.new.given ≡ self.old.given) × (self.new.taken ≡ self.old.taken) × (self.new.left ≡ self.old.left) × (self.new.rest ≡ self.old.rest) }
+    {
+        self.paces.sub(&mut pace.share, pace.count);
+        pace.count = 0;
+    }
+
+    /// A pace is set to 1.
+    pub fn renew(&mut self, pace: &mut Pace<J>)
+        ensures pace { pace.new ≡ 1 }
+        ensures paces { self.new.paces + pace.old ≡ self.old.paces + 1 }
+        ensures others { (self.new.given ≡ self.old.given) × (self.new.taken ≡ self.old.taken) × (self.new.left ≡ self.old.left) × (self.new.rest ≡ self.old.rest) }
+    {
+        self.paces.sub(&mut pace.share, pace.count);
+        self.paces.add(&mut pace.share, 1);
+        pace.count = 1;
+    }
+
+    /// The pace of a task that has ended.
     pub fn back(&mut self, pace: Pace<J>)
         ensures paces { self.new.paces + pace ≡ self.old.paces }
-        ensures left { (self.new.left ≡ self.old.left + 1) × (self.new.left ≤ J.places) }
+        ensures left { self.new.left ≡ self.old.left + 1 }
         ensures others { (self.new.given ≡ self.old.given) × (self.new.taken ≡ self.old.taken) × (self.new.rest ≡ self.old.rest) }
     {
         let Pace { count, mut share } = pace;

@@ -53,7 +53,7 @@ impl<J: Run> Counts<J> {
         ensures pace { result.1 ≡ 1 }
     {
         let mut books = Books::open(given, taken, paces);
-        let pace = books.fresh(1);
+        let pace = books.fresh();
         (
             Counts {
                 events: 0,
@@ -81,44 +81,41 @@ impl<J: Run> Counts<J> {
         self.books.merge(hand);
     }
 
-    /// A job makes an event, and goes on beside a new one. The paces are those of the new one and of the one that goes on.
-    pub fn fork(&mut self, hand: &mut Hand<J>, pace: Pace<J>) -> (Pace<J>, Pace<J>)
+    /// A job makes an event, and goes on beside a new one, whose pace is the result.
+    pub fn fork(&mut self, hand: &mut Hand<J>, pace: &mut Pace<J>) -> Pace<J>
         requires { self.old.events < J.limits.events }
         ensures counts { self.new ≡ forked self.old }
         ensures hand { hand.new ≡ turned 2 hand.old }
-        ensures paces { (result.0 ≡ 1) × (result.1 ≡ 1) }
+        ensures paces { (pace.new ≡ 1) × (result ≡ 1) }
     {
-        self.books.back(pace);
         self.books.take(hand);
         self.books.give(hand);
         self.books.give(hand);
+        self.books.renew(pace);
         self.events += 1;
         self.running += 1;
-        (self.books.fresh(1), self.books.fresh(1))
+        self.books.fresh()
     }
 
     /// A job makes an event, and goes on.
-    pub fn go_on(&mut self, hand: &mut Hand<J>, pace: Pace<J>) -> Pace<J>
+    pub fn go_on(&mut self, hand: &mut Hand<J>, pace: &mut Pace<J>)
         requires { self.old.events < J.limits.events }
         ensures counts { self.new ≡ gone_on self.old }
         ensures hand { hand.new ≡ turned 1 hand.old }
-        ensures pace { result ≡ 1 }
+        ensures pace { pace.new ≡ 1 }
     {
-        self.books.back(pace);
         self.books.take(hand);
         self.books.give(hand);
+        self.books.renew(pace);
         self.events += 1;
-        self.books.fresh(1)
     }
 
-    /// A job goes to wait, with no event.
-    pub fn wait(&mut self, hand: &mut Hand<J>, pace: Pace<J>)
-        requires { pace ≡ 1 }
+    /// A job goes to wait, with no event. It keeps its pace, which is to be 1.
+    pub fn wait(&mut self, hand: &mut Hand<J>)
+        requires { 0 < self.old.running }
         ensures counts { self.new ≡ gone_to_wait self.old }
-        ensures running { 0 < self.old.running }
         ensures hand { hand.new ≡ turned 0 hand.old }
     {
-        self.books.back(pace);
         self.books.take(hand);
         self.running -= 1;
         self.waiting += 1;
@@ -126,9 +123,9 @@ impl<J: Run> Counts<J> {
 
     /// A job makes its last event.
     pub fn end(&mut self, hand: &mut Hand<J>, pace: Pace<J>)
-        requires { self.old.events < J.limits.events }
+        requires room { self.old.events < J.limits.events }
+        requires running { 0 < self.old.running }
         ensures counts { self.new ≡ over self.old }
-        ensures running { 0 < self.old.running }
         ensures hand { hand.new ≡ turned 0 hand.old }
     {
         self.books.back(pace);
@@ -137,17 +134,18 @@ impl<J: Run> Counts<J> {
         self.running -= 1;
     }
 
-    /// A job that waited goes on.
-    pub fn wake(&mut self, hand: &mut Hand<J>) -> Pace<J>
-        requires { 0 < self.old.waiting }
+    /// A job that waited goes on. It may not wait again before its next event.
+    pub fn wake(&mut self, hand: &mut Hand<J>, pace: &mut Pace<J>)
+        requires waiting { 0 < self.old.waiting }
+        requires pace { pace.old ≡ 1 }
         ensures counts { self.new ≡ woken self.old }
         ensures hand { hand.new ≡ record { given = hand.old.given + 1; taken = hand.old.taken } }
-        ensures pace { result ≡ 0 }
+        ensures pace { pace.new ≡ 0 }
     {
         self.books.give(hand);
+        self.books.spend(pace);
         self.running += 1;
         self.waiting -= 1;
-        self.books.fresh(0)
     }
 
     /// How many tasks have not ended.

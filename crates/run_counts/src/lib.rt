@@ -3,8 +3,8 @@
 //! stands in two ledgers of std, of which each worker has a share in its hand (`Hand`). So when all hands come back, how many
 //! jobs there are is known from what the hands say: none is lost.
 //!
-//! A third ledger bounds how often jobs come in with no event: a job has a pace (`Pace`) of 0 or 1, and gives up the 1 when it
-//! goes to wait. A job that waited comes back with a pace of 0. So no count comes near 2^64.
+//! A third ledger bounds how often jobs come in with no event: a job has a pace (`Pace`) of 0 or 1, and goes to wait with a pace
+//! of 1 only; when it goes on its pace is 0, until its next event. So no count comes near 2^64.
 //!
 //! `Counts` has a call for each way in which jobs come in and go out. None of them can be refused.
 #![tactic(auto)]

@@ -26,18 +26,18 @@ fn two_workers<J: Run>(blanks: (Blank, Blank, Blank)) -> Told
     requires run { (J.limits.events ≡ 10) × (J.hands ≡ 3) × (J.places ≡ 13) }
 {
     let (given, taken, paces) = blanks;
-    let (mut counts, root) = Counts::<J>::open(given, taken, paces);
+    let (mut counts, mut root) = Counts::<J>::open(given, taken, paces);
     let mut first = counts.hand();
     let mut second = counts.hand();
-    let (child, root) = counts.fork(&mut first, root);
+    let mut child = counts.fork(&mut first, &mut root);
     let before = counts.unended();
-    counts.wait(&mut first, root);
-    let child = counts.go_on(&mut second, child);
+    counts.wait(&mut first);
+    counts.go_on(&mut second, &mut child);
     let child_pace = child.count();
     counts.end(&mut second, child);
-    let root = counts.wake(&mut second);
+    counts.wake(&mut second, &mut root);
     let waited_pace = root.count();
-    let root = counts.go_on(&mut second, root);
+    counts.go_on(&mut second, &mut root);
     let told = Told {
         before,
         unended: counts.unended(),
