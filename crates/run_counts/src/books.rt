@@ -126,7 +126,8 @@ impl<J: Run> Books<J> {
     pub fn spend(&mut self, pace: &mut Pace<J>)
         ensures pace { pace.new ≡ 0 }
         ensures paces { self.new.paces + pace.old ≡ self.old.paces }
-        ensures others { (self.new.given ≡ self.old.given) × (self.new.taken ≡ self.old.taken) × (self.new.left ≡ self.old.left) × (self.new.rest ≡ self.old.rest) }
+        ensures totals { (self.new.given ≡ self.old.given) × (self.new.taken ≡ self.old.taken) }
+        ensures others { (self.new.left ≡ self.old.left) × (self.new.rest ≡ self.old.rest) }
     {
         self.paces.sub(&mut pace.share, pace.count);
         pace.count = 0;
@@ -136,7 +137,8 @@ impl<J: Run> Books<J> {
     pub fn renew(&mut self, pace: &mut Pace<J>)
         ensures pace { pace.new ≡ 1 }
         ensures paces { self.new.paces + pace.old ≡ self.old.paces + 1 }
-        ensures others { (self.new.given ≡ self.old.given) × (self.new.taken ≡ self.old.taken) × (self.new.left ≡ self.old.left) × (self.new.rest ≡ self.old.rest) }
+        ensures totals { (self.new.given ≡ self.old.given) × (self.new.taken ≡ self.old.taken) }
+        ensures others { (self.new.left ≡ self.old.left) × (self.new.rest ≡ self.old.rest) }
     {
         self.paces.sub(&mut pace.share, pace.count);
         self.paces.add(&mut pace.share, 1);

@@ -1,5 +1,5 @@
 -- What a place knows after a join.
-use Rattle.std.proofs.Common.{◌≡◌, ℕ, ◌+◌, ◌<◌, ◌≤◌, Bool, true, false, List, [], ◌∷◌, ◌++◌, map, length, reverse, inl, inr, ◌⊎◌, subst, ap, sym, refl, ◌∙◌, arith}
+use Rattle.std.proofs.Common.{◌≡◌, ℕ, ◌+◌, ◌<◌, ◌≤◌, Bool, true, false, List, [], ◌∷◌, ◌++◌, length, reverse, inl, inr, ◌⊎◌, subst, ap, sym, refl, ◌∙◌, arith}
 use Rattle.std.proofs.lemmas.List.{map-append, length-append, append-nil, nil_from_length, reverse-append}
 use Rattle.atomic_table.specs.Seated.{TableId}
 use Rattle.fut_base.specs.declared.event.Event.{Event}
@@ -103,37 +103,24 @@ strand_stays s later v sound is =
     record { there = omega (arith, more, is.there); future_is = is.future_is ∙ sym home }
 
 -- a place after a join of its pass and of its reader
-pub place_after : (clock : Ticking) (orders : TableId) (at : Strand) (table : List Strand) (pass pass' : Seated) (reader reader' : Reading) (v : View) (m : List Insert)
+pub place_after : (clock : Ticking) (orders : TableId) (at : Strand) (table : List Strand) (pass pass' : Seated) (reader reader' : Reading)
+    (v : View) (m : List Insert)
     → IsPlace clock orders (record { at = at; table = table; pass = pass; reader = reader })
     → AreAlike (book_of v) m → IsJoin pass.view v pass'.view → pass'.clock ≡ pass.clock → reader'.home ≡ reader.home
     → StartsWith reader'.log reader.log → StartsWith reader'.log m → (reader'.log ≡ reader.log) ⊎ (reader'.log ≡ m)
     → IsPlace clock orders (record { at = at; table = table; pass = pass'; reader = reader' })
 place_after clock orders at table pass pass' reader reader' v m is other join clock_is home s t either =
-    let alike = learned (book_of pass.view) (book_of v) (book_of pass'.view) reader.log m reader'.log is.alike other (join.first 0) (join.second 0) (book_is pass.view v pass'.view join) s t either in
-    let more = events_more (book_of pass.view) (book_of pass'.view) (join.first 0) in
+    let one = book_is pass.view v pass'.view join in
+    let first = join.first 0 in
+    let alike = learned (book_of pass.view) (book_of v) (book_of pass'.view) reader.log m reader'.log is.alike other first (join.second 0) one s t either in
+    let more = events_more (book_of pass.view) (book_of pass'.view) first in
     let sound : IsSound (events_in (book_of pass.view) ++ more.0) = subst IsSound more.1 alike.sound in
     record {
       clock_is = clock_is ∙ is.clock_is;
       orders_is = home ∙ is.orders_is;
       alike = alike;
       strand = subst (λ s. IsStrandOf s at) (sym more.1) (strand_stays (events_in (book_of pass.view)) more.0 at sound is.strand);
-      table = subst (λ s. HasTable s at.number table) (sym more.1) (tables_stay (events_in (book_of pass.view)) more.0 at.number table sound is.strand.there is.table);
-    }
-
-nothing_alike : AreAlike [] []
-nothing_alike = record { sound = tt; strands = refl; orders = record { english_is = refl; hebrew_is = refl } }
-
--- before any event the root task is on strand 0, whose table is empty
-pub root_place : (clock : Ticking) (orders : TableId) (at : Strand) (pass : Seated) (reader : Reading) → at.number ≡ 0 → at.future ≡ 0
-    → pass.clock ≡ clock.id → reader.home ≡ orders → book_of pass.view ≡ [] → reader.log ≡ []
-    → IsPlace clock orders (record { at = at; table = []; pass = pass; reader = reader })
-root_place clock orders at pass reader number future clock_is orders_is none empty =
-    let first : IsStrandOf [] at = record { there = omega (arith, number); future_is = future } in
-    let table : HasTable [] at.number [] = record { same = λ x. (λ a. a, λ a. a); homes = λ w a. absurd a } in
-    record {
-      clock_is = clock_is;
-      orders_is = orders_is;
-      alike = subst (λ b. AreAlike b reader.log) (sym none) (subst (λ l. AreAlike [] l) (sym empty) nothing_alike);
-      strand = subst (λ b. IsStrandOf (events_in b) at) (sym none) first;
-      table = subst (λ b. HasTable (events_in b) at.number []) (sym none) table;
+      table =
+          let stays = tables_stay (events_in (book_of pass.view)) more.0 at.number table sound is.strand.there is.table in
+          subst (λ s. HasTable s at.number table) (sym more.1) stays;
     }

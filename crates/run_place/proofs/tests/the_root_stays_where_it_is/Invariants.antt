@@ -2,7 +2,7 @@ use Rattle.run_names.specs.Names.{no_code, no_limits}
 use Rattle.run_place.proofs.tests.the_root_stays_where_it_is.Given as goal
 
 abbrev pub ghosts-there_and_back : goal.ghosts-there_and_back
-ghosts-there_and_back a = record {
+ghosts-there_and_back g a = record {
   clock = a.clock.now;
   orders = a.orders.now;
   code = no_code;
