@@ -97,11 +97,12 @@ pub record IsTold (size : Size) (v : View) (word : ℕ) : Type 0 where
   pub made : (t : ℕ) → 0 < carries t v.tasks → is_task t log ≡ true
   pub late : 0 < v.late → size.bound < word
 
--- what a join tells: both old views' lists are beginnings of the new ones, no task was carried by both, and the entries of each task
--- that is known stand beside it
+-- what a join tells: both old views' lists are beginnings of the new ones, no task was carried by both, the entries of each task
+-- that is known stand beside it, and of its own numbers all entries are known
 pub record IsJoin (v w b : View) : Type 0 where
   pub view : b ≡ joined v w
   pub first : (h : ℕ) → IsPrefix (list_at v.known h) (list_at b.known h)
   pub second : (h : ℕ) → IsPrefix (list_at w.known h) (list_at b.known h)
   pub apart : (t : ℕ) → carries t v.tasks + carries t w.tasks ≤ 1
   pub entries : (c : Carried) (h : ℕ) (x : ℕ × Event) → Among c b.tasks → Among x (list_at b.known h) → x.1.task ≡ c.task → Among x c.trace
+  pub whole : (p : Own) → Among p b.own → list_at b.known p.number ≡ p.entries
