@@ -1,5 +1,6 @@
 -- A whole history without a race, and any other legal one.
-use Rattle.std.proofs.Common.{◌≡◌, ◌≢◌, ℕ, zero, suc, ◌+◌, ◌<◌, ◌≤◌, List, [], ◌∷◌, length, reverse, slice_get, slice_set, ◌⊎◌, inl, inr, refl, sym, ap, ◌∙◌, subst, arith}
+use Rattle.std.proofs.Common.{◌≡◌, ◌≢◌, ℕ, zero, suc, ◌+◌, ◌<◌, ◌≤◌, List, [], ◌∷◌, length, reverse}
+use Rattle.std.proofs.Common.{slice_get, slice_set, ◌⊎◌, inl, inr, refl, sym, ap, ◌∙◌, subst, arith}
 use Rattle.std.specs.Prelude.{Option, Some, None, IsSome, ℤ}
 use Rattle.std.proofs.lemmas.Bool.{cases_eq, cases_lt}
 use Rattle.std.proofs.lemmas.Option.{same_Some}
@@ -41,7 +42,8 @@ none_other names None None h e = refl
 none_other names None (Some w) h e = absurd h
 none_other names (Some v) p h e = cc
 
-some_other : (names : Names) (o p : Option Value) (v : Value) → SameOption (Matched names) o p → o ≡ Some v → (w : Value) × (p ≡ Some w) × SameValue (Matched names) v w
+some_other : (names : Names) (o p : Option Value) (v : Value) → SameOption (Matched names) o p → o ≡ Some v
+    → (w : Value) × (p ≡ Some w) × SameValue (Matched names) v w
 some_other names (Some x) (Some y) v h e = (y, refl, subst (λ z. SameValue (Matched names) z y) (same_Some _ _ e) h)
 some_other names (Some x) None v h e = absurd h
 some_other names None p v h e = cc
@@ -71,7 +73,12 @@ without n (x ∷ xs) d = elim (cases_eq x n) [
   | inl e ↦ record { rest = xs; distinct = d.1; short = omega arith; from = λ i a. (inr a, λ q. d.0 (subst (λ z. Among z xs) (q ∙ sym e) a)) }
   | inr ne ↦ (
       let k = without n xs d.1 in
-      record { rest = x ∷ k.rest; distinct = ((λ a. d.0 (k.from x a).0), k.distinct); short = (let s = k.short in omega (arith, s)); from = λ i a. (elim a [ inl e ↦ (inl e, λ q. ne (e ∙ q)) | inr a ↦ (inr (k.from i a).0, (k.from i a).1) ]) })
+      record {
+        rest = x ∷ k.rest;
+        distinct = ((λ a. d.0 (k.from x a).0), k.distinct);
+        short = (let s = k.short in omega (arith, s));
+        from = λ i a. (elim a [ inl e ↦ (inl e, λ q. ne (e ∙ q)) | inr a ↦ (inr (k.from i a).0, (k.from i a).1) ]);
+      })
 ]
 
 few : (n : ℕ) (xs : List ℕ) → Distinct xs → ((i : ℕ) → Among i xs → i < n) → length xs ≤ n
@@ -83,7 +90,8 @@ few (suc n) xs d f =
     let r = few n k.rest k.distinct (λ i a. (let o = k.from i a in let lt = f i o.0 in let ne = o.1 in omega (arith, lt, ne))) in
     omega (arith, s, r)
 
-paired_length : (hp gp : List Event) (places : List ℕ) → Paired hp gp places → (length gp ≡ length places) × Distinct places × ((i : ℕ) → Among i places → i < length hp)
+paired_length : (hp gp : List Event) (places : List ℕ) → Paired hp gp places
+    → (length gp ≡ length places) × Distinct places × ((i : ℕ) → Among i places → i < length hp)
 paired_length hp [] [] x = (refl, tt, λ i a. absurd a)
 paired_length hp [] (j ∷ places) x = absurd x
 paired_length hp (e ∷ gp) [] x = absurd x
@@ -128,10 +136,12 @@ module _ (P : tree.Program) (h : List Event) (m : Machine) (leads : Leads P (ope
     all_of c d q v mt is done =
         let cut = x.tasks c q is in
         let w = some_other names q.value (cut.task).value v cut.same.value done in
-        subst (HasAll places (reverse h)) (x.mates c cut.mate d cut.matched mt) (ended_all P (reverse h) cut.older places cut.mate cut.task w.0 cut.machine m cut.came cut.present w.1 cut.all cm cut.tail)
+        subst (HasAll places (reverse h)) (x.mates c cut.mate d cut.matched mt)
+        (ended_all P (reverse h) cut.older places cut.mate cut.task w.0 cut.machine m cut.came cut.present w.1 cut.all cm cut.tail)
 
     -- and the value with which it ended
-    value_of_mate : (c d : ℕ) (q : Running) (v : Value) → Matched names c d → slice_get n.tasks c ≡ Some q → q.value ≡ Some v → (r : Running) × (w : Value) × (slice_get m.tasks d ≡ Some r) × (r.value ≡ Some w) × SameValue (Matched names) v w
+    value_of_mate : (c d : ℕ) (q : Running) (v : Value) → Matched names c d → slice_get n.tasks c ≡ Some q → q.value ≡ Some v
+        → (r : Running) × (w : Value) × (slice_get m.tasks d ≡ Some r) × (r.value ≡ Some w) × SameValue (Matched names) v w
     value_of_mate c d q v mt is done =
         let cut = x.tasks c q is in
         let w = some_other names q.value (cut.task).value v cut.same.value done in
@@ -143,7 +153,8 @@ module _ (P : tree.Program) (h : List Event) (m : Machine) (leads : Leads P (ope
       Result e = (ps : List ℕ) × (ns : Names) × IsMatch P (reverse h) (e ∷ gp) next ps ns
 
       one_due : (d : Event) → IsTail (reverse h) (d ∷ older) → (c u : ℕ) (v : Value) → Matched names c u → ended_with n c ≡ Some v → HasAll places older u
-      one_due d tail c u v mt is = let k = ended_is n c v is in has_down places (reverse h) older u (tail_on (reverse h) d older tail) (all_of c u k.0 v mt k.1 k.2)
+      one_due d tail c u v mt is = let k =
+          ended_is n c v is in has_down places (reverse h) older u (tail_on (reverse h) d older tail) (all_of c u k.0 v mt k.1 k.2)
 
       block_due : (d : Event) → IsTail (reverse h) (d ∷ older) → (cs us : List ℕ) → SameBlock names cs us → AllHaveEnded n cs → HasAllOf places older us
       block_due d tail [] [] s a = tt
@@ -151,7 +162,8 @@ module _ (P : tree.Program) (h : List Event) (m : Machine) (leads : Leads P (ope
       block_due d tail [] (u ∷ us) s a = absurd s
       block_due d tail (c ∷ cs) [] s a = absurd s
 
-      one_value : (d : Event) → IsTail (reverse h) (d ∷ older) → (c u : ℕ) (v w : Value) → Matched names c u → ended_with n c ≡ Some v → ended_with q u ≡ Some w → SameValue (Matched names) v w
+      one_value : (d : Event) → IsTail (reverse h) (d ∷ older) → (c u : ℕ) (v w : Value) → Matched names c u → ended_with n c ≡ Some v
+          → ended_with q u ≡ Some w → SameValue (Matched names) v w
       one_value d tail c u v w mt is at =
           let k = ended_is n c v is in
           let j = ended_is q u w at in
@@ -160,7 +172,8 @@ module _ (P : tree.Program) (h : List Event) (m : Machine) (leads : Leads P (ope
           let same : a.0 ≡ j.0 = same_Some _ _ (sym a.2 ∙ b) in
           subst (SameValue (Matched names) v) (same_Some _ _ (sym a.3 ∙ ap (λ (z : Running). z.value) same ∙ j.2)) a.4
 
-      due_of : (d : Event) → IsTail (reverse h) (d ∷ older) → (a b : Action) (r p : Running) → Agrees names a b → Permits n r a → SameBlock names r.block p.block → (bs : List ℕ) → bs ≡ p.block → HasAllOf places older (waited_by bs b)
+      due_of : (d : Event) → IsTail (reverse h) (d ∷ older) → (a b : Action) (r p : Running) → Agrees names a b → Permits n r a
+          → SameBlock names r.block p.block → (bs : List ℕ) → bs ≡ p.block → HasAllOf places older (waited_by bs b)
       due_of d tail (Syncs _) (Syncs _) r p g may s bs is = subst (HasAllOf places older) (sym is) (block_due d tail r.block p.block s may.1)
       due_of d tail (Gets f v _) (Gets u _ _) r p g may s bs is = (one_due d tail f u v g may.1, tt)
       due_of d tail (Reads _ _) (Reads _ _) r p g may s bs is = tt
@@ -185,11 +198,13 @@ module _ (P : tree.Program) (h : List Event) (m : Machine) (leads : Leads P (ope
         trace : SameTrace names (events_by e.task gp) (events_by d.task older)
 
       -- an action that makes no task
-      plain : (e d : Event) (k : Mates e d) → SameAction (Matched names) e.action d.action → SameTouch e.action d.action → child_of P k.step.task e.action ≡ [] → ((u : ℕ) → Makes d.action u → ⊥) → Result e
+      plain : (e d : Event) (k : Mates e d) → SameAction (Matched names) e.action d.action → SameTouch e.action d.action
+          → child_of P k.step.task e.action ≡ [] → ((u : ℕ) → Makes d.action u → ⊥) → Result e
       plain e d k same touch childless barren = (
         length older ∷ places,
         names,
-        step_match P (reverse h) gp n next e k.step places names names x older d k.tail q after came_q k.own k.matched k.all k.fresh k.none k.due touch (λ f g r. r) k.trace same came_g
+        step_match P (reverse h) gp n next e k.step places names names x older d k.tail q after came_q k.own k.matched k.all k.fresh k.none k.due touch
+            (λ f g r. r) k.trace same came_g
             (same_acted names k.step.task k.own.task k.step.stop k.own.stop e.action d.action k.task k.stop same)
             (λ r i is. absurd (no_get i r (subst (λ l. slice_get l i ≡ Some r) childless is)))
             (λ t u a. inl a)
@@ -197,14 +212,19 @@ module _ (P : tree.Program) (h : List Event) (m : Machine) (leads : Leads P (ope
       )
 
       -- an action that makes a task
-      making : (e d : Event) (k : Mates e d) (code code' child child' kid kid' fut fut' : ℕ) (args args' : List Value) → child ≡ length n.tasks → child' ≡ length q.tasks → Makes d.action child' → ((u : ℕ) → Makes d.action u → child' ≡ u)
-          → SameAction (Matched ((child, child') ∷ names)) e.action d.action → SameTouch e.action d.action → child_of P k.step.task e.action ≡ begins P code args kid fut ∷ [] → child_of P k.own.task d.action ≡ begins P code' args' kid' fut' ∷ []
+      making : (e d : Event) (k : Mates e d) (code code' child child' kid kid' fut fut' : ℕ) (args args' : List Value) → child ≡ length n.tasks
+          → child' ≡ length q.tasks → Makes d.action child' → ((u : ℕ) → Makes d.action u → child' ≡ u)
+          → SameAction (Matched ((child, child') ∷ names)) e.action d.action → SameTouch e.action d.action
+          → child_of P k.step.task e.action ≡ begins P code args kid fut ∷ [] → child_of P k.own.task d.action ≡ begins P code' args' kid' fut' ∷ []
           → code ≡ code' → SameValues (Matched names) args args' → tasks_by e.action ≡ 1 → Result e
       making e d k code code' child child' kid kid' fut fut' args args' at at' mk one same touch has has' codes vals adds = (
         length older ∷ places,
         more,
-        step_match P (reverse h) gp n next e k.step places names more x older d k.tail q after came_q k.own k.matched k.all k.fresh k.none k.due touch wider k.trace same came_g
-            (same_acted more k.step.task k.own.task k.step.stop k.own.stop e.action d.action (wider_task names more wider k.step.task k.own.task k.task) (same_is_wider names more k.step.stop k.own.stop wider k.stop) same)
+        step_match P
+            (reverse h) gp n next e k.step places names more x older d k.tail q after came_q k.own k.matched k.all k.fresh k.none k.due touch wider k.trace
+            same came_g
+            (same_acted more k.step.task k.own.task k.step.stop k.own.stop e.action d.action (wider_task names more wider k.step.task k.own.task k.task)
+            (same_is_wider names more k.step.stop k.own.stop wider k.stop) same)
             (λ r i is. (let o = only (begins P code args kid fut) r i (subst (λ l. slice_get l i ≡ Some r) has is) in (o.0, child_born r o.1)))
             pairs
             (λ u k. (child, inl (ap (λ z. (child, z)) (one u k)))),
@@ -217,7 +237,15 @@ module _ (P : tree.Program) (h : List Event) (m : Machine) (leads : Leads P (ope
           wider f g r = inr r
 
           started : IsSameTask more (begins P code args kid fut) (begins P code' args' kid' fut')
-          started = record { which = codes; state = subst (λ z. IsSameState (Matched more) (begins P code args kid fut).state (begins P z args' kid' fut').state) codes (start_is_same more P code args args' (wider_values (Matched names) (Matched more) wider args args' vals)); block = tt; value = tt }
+          started =
+              record {
+                which = codes;
+                state = subst
+                    (λ z. IsSameState (Matched more) (begins P code args kid fut).state (begins P z args' kid' fut').state) codes
+                    (start_is_same more P code args args' (wider_values (Matched names) (Matched more) wider args args' vals));
+                block = tt;
+                value = tt;
+              }
 
           child_born : (r : Running) → begins P code args kid fut ≡ r → Born P more n after d r
           child_born r is =
@@ -226,7 +254,8 @@ module _ (P : tree.Program) (h : List Event) (m : Machine) (leads : Leads P (ope
                 matched = subst (λ z. Matched more z child') at (inl refl);
                 makes = mk;
                 task = begins P code' args' kid' fut';
-                present = subst (λ z. slice_get after.tasks z ≡ Some (begins P code' args' kid' fut')) (sym at') (child_comes P q d after (begins P code' args' kid' fut') k.own has');
+                present = subst (λ z. slice_get after.tasks z ≡ Some (begins P code' args' kid' fut')) (sym at')
+                    (child_comes P q d after (begins P code' args' kid' fut') k.own has');
                 same = subst (λ z. IsSameTask more z (begins P code' args' kid' fut')) is started;
               }
 
@@ -241,7 +270,9 @@ module _ (P : tree.Program) (h : List Event) (m : Machine) (leads : Leads P (ope
       -- what is read is the same
       read_same : (t s : ℕ) (c : ℕ) (v : ℤ) (u z c' : ℕ) (w : ℤ) → Mates (ev t s (Reads c v)) (ev u z (Reads c' w)) → c ≡ c' → v ≡ w
       read_same t s c v u z c' w k e =
-          same_cell P h gp m n places leads clean x.paired older q c v w (tail_on (reverse h) (ev u z (Reads c' w)) older k.tail) came_q came_g below above k.step.permits (subst (λ y. slice_get q.cells y ≡ Some w) (sym e) k.own.permits)
+          same_cell P h gp m n places leads clean x.paired older q c v w
+          (tail_on (reverse h) (ev u z (Reads c' w)) older k.tail) came_q came_g below above k.step.permits
+          (subst (λ y. slice_get q.cells y ≡ Some w) (sym e) k.own.permits)
         where
           here : Stood (reverse h) (length older) (ev u z (Reads c' w))
           here = stood_head (reverse h) older (ev u z (Reads c' w)) k.tail
@@ -252,8 +283,10 @@ module _ (P : tree.Program) (h : List Event) (m : Machine) (leads : Leads P (ope
           below : (i : ℕ) (b : Event) (y : ℤ) → Stood older i b → b.action ≡ Writes c y → Among i places
           below i b y st is =
               let lt = stood_lt older i b st in
-              let conflict : Conflict c b (ev u z (Reads c' w)) = record { one = subst (IsAccess c) (sym is) refl; other = access; write = inl (subst IsWrite (sym is) tt) } in
-              let got = conflict_in P h m leads clean (length older ∷ places) (closed_more places (reverse h) older (ev u z (Reads c' w)) k.tail x.closed k.due) c i (length older) b (ev u z (Reads c' w))
+              let conflict : Conflict c b (ev u z (Reads c' w)) =
+              record { one = subst (IsAccess c) (sym is) refl; other = access; write = inl (subst IsWrite (sym is) tt) } in
+              let got = conflict_in P h m leads clean (length older ∷ places)
+              (closed_more places (reverse h) older (ev u z (Reads c' w)) k.tail x.closed k.due) c i (length older) b (ev u z (Reads c' w))
               (stood_tail (reverse h) older i b (tail_on (reverse h) (ev u z (Reads c' w)) older k.tail) st) here lt conflict (inl refl) in
               elim got [ inl p ↦ absurd (omega (arith, p, lt)) | inr a ↦ a ]
 
@@ -262,22 +295,33 @@ module _ (P : tree.Program) (h : List Event) (m : Machine) (leads : Leads P (ope
             | inl lt ↦ lt
             | inr le ↦ elim (cases_eq (length older) i) [
               | inl p ↦ absurd (k.fresh (subst (λ z. Among z places) (sym p) a))
-              | inr ne ↦ absurd (k.fresh (conflict_in P h m leads clean places x.closed c (length older) i (ev u z (Reads c' w)) b here st (omega (arith, le, ne)) (record { one = access; other = subst (IsAccess c) (sym is) refl; write = inr (subst IsWrite (sym is) tt) }) a))
+              | inr ne ↦
+                  absurd
+                  (k.fresh
+                  (conflict_in P h m leads clean places x.closed c (length older) i (ev u z (Reads c' w)) b here st (omega (arith, le, ne))
+                  (record { one = access; other = subst (IsAccess c) (sym is) refl; write = inr (subst IsWrite (sym is) tt) }) a))
             ]
           ]
 
       conclude : (t s : ℕ) (a : Action) (u z : ℕ) (b : Action) → Mates (ev t s a) (ev u z b) → Agrees names a b → Result (ev t s a)
-      conclude t s (Reads c v) u z (Reads c' w) k g = plain (ev t s (Reads c v)) (ev u z (Reads c' w)) k (g, read_same t s c v u z c' w k g) (w, ap (λ y. Reads y w) (sym g)) refl (λ y mk. mk)
-      conclude t s (Writes c v) u z (Writes c' w) k g = plain (ev t s (Writes c v)) (ev u z (Writes c' w)) k g (ap (λ y. Writes y w) (sym g.0) ∙ ap (λ y. Writes c y) (sym g.1)) refl (λ y mk. mk)
+      conclude t s (Reads c v) u z (Reads c' w) k g =
+          plain (ev t s (Reads c v)) (ev u z (Reads c' w)) k (g, read_same t s c v u z c' w k g) (w, ap (λ y. Reads y w) (sym g)) refl (λ y mk. mk)
+      conclude t s (Writes c v) u z (Writes c' w) k g =
+          plain (ev t s (Writes c v)) (ev u z (Writes c' w)) k g (ap (λ y. Writes y w) (sym g.0) ∙ ap (λ y. Writes c y) (sym g.1)) refl (λ y mk. mk)
       conclude t s (Syncs i) u z (Syncs j) k g = plain (ev t s (Syncs i)) (ev u z (Syncs j)) k tt tt refl (λ y mk. mk)
       conclude t s (Gets f v i) u z (Gets f' w j) k g =
-          plain (ev t s (Gets f v i)) (ev u z (Gets f' w j)) k (g, one_value (ev u z (Gets f' w j)) k.tail f f' v w g k.step.permits.1 k.own.permits.1) tt refl (λ y mk. mk)
+          plain (ev t s (Gets f v i)) (ev u z (Gets f' w j)) k
+          (g, one_value (ev u z (Gets f' w j)) k.tail f f' v w g k.step.permits.1 k.own.permits.1) tt refl (λ y mk. mk)
       conclude t s (Ends v) u z (Ends w) k g = plain (ev t s (Ends v)) (ev u z (Ends w)) k g tt refl (λ y mk. mk)
       conclude t s (Spawns code c kid cont args) u z (Spawns code' c' kid' cont' args') k g =
-          making (ev t s (Spawns code c kid cont args)) (ev u z (Spawns code' c' kid' cont' args')) k code code' c c' kid kid' k.step.task.future k.own.task.future args args' k.step.permits.0 k.own.permits.0 refl (λ y mk. mk)
+          making (ev t s (Spawns code c kid cont args))
+          (ev u z
+          (Spawns code' c' kid' cont' args')) k code code' c c' kid kid' k.step.task.future k.own.task.future args args' k.step.permits.0 k.own.permits.0
+          refl (λ y mk. mk)
           (g.0, inl refl, wider_values (Matched names) (Matched ((c, c') ∷ names)) (λ f g r. inr r) args args' g.1) tt refl refl g.0 g.1 refl
       conclude t s (Creates code c kid cont args) u z (Creates code' c' kid' cont' args') k g =
-          making (ev t s (Creates code c kid cont args)) (ev u z (Creates code' c' kid' cont' args')) k code code' c c' kid kid' c c' args args' k.step.permits.0 k.own.permits.0 refl (λ y mk. mk)
+          making (ev t s (Creates code c kid cont args))
+          (ev u z (Creates code' c' kid' cont' args')) k code code' c c' kid kid' c c' args args' k.step.permits.0 k.own.permits.0 refl (λ y mk. mk)
           (g.0, inl refl, wider_values (Matched names) (Matched ((c, c') ∷ names)) (λ f g r. inr r) args args' g.1) tt refl refl g.0 g.1 refl
       conclude t s _ u z _ k g = absurd g
 
@@ -285,22 +329,29 @@ module _ (P : tree.Program) (h : List Event) (m : Machine) (leads : Leads P (ope
     further e next step =
         let cut = x.tasks e.task step.task step.present in
         elim (walk P (reverse h) cut.older places cut.mate cut.task cut.machine m cut.came cut.present cut.all cm cut.tail) [
-          | inr s ↦ absurd (not_both (cut.task).value (none_other names step.task.value (cut.task).value cut.same.value step.running) (ended_at m.tasks cut.mate cut.task ended s.0))
+          | inr s ↦
+              absurd
+              (not_both (cut.task).value (none_other names step.task.value (cut.task).value cut.same.value step.running)
+              (ended_at m.tasks cut.mate cut.task ended s.0))
           | inl y ↦ go cut y
         ]
       where
-        go : (cut : Cut P (reverse h) gp places names e.task step.task) → Next P (reverse h) cut.older places cut.mate cut.task → (ps : List ℕ) × (ns : Names) × IsMatch P (reverse h) (e ∷ gp) next ps ns
+        go : (cut : Cut P (reverse h) gp places names e.task step.task) → Next P (reverse h) cut.older places cut.mate cut.task
+            → (ps : List ℕ) × (ns : Names) × IsMatch P (reverse h) (e ∷ gp) next ps ns
         go cut y =
             let d = y.event in
             let own = y.step in
             let task_is : own.task ≡ cut.task = same_Some _ _ (sym own.present ∙ ap (slice_get (y.machine).tasks) y.task_is ∙ y.present) in
             let same : IsSameTask names step.task own.task = subst (IsSameTask names step.task) (sym task_is) cut.same in
             let stands = stands_at_same names step.task.state own.task.state step.stop same.state step.stands in
-            let stop : IsSameState (Matched names) step.stop own.stop = subst (IsSameState (Matched names) step.stop) (stands_at_one own.task.state stands.0 own.stop stands.1 own.stands) stands.2 in
-            let agree = agrees names (wish_of P step.stop) (wish_of P own.stop) e.action d.action (wish_is_same names P step.stop own.stop stop) step.answers own.answers in
+            let stop : IsSameState (Matched names) step.stop own.stop =
+            subst (IsSameState (Matched names) step.stop) (stands_at_one own.task.state stands.0 own.stop stands.1 own.stands) stands.2 in
+            let agree = agrees names (wish_of P step.stop) (wish_of P own.stop) e.action d.action
+            (wish_is_same names P step.stop own.stop stop) step.answers own.answers in
             let later : length cut.older ≤ length y.older = y.later in
             let all : HasAll places y.older d.task = subst (HasAll places y.older) (sym y.task_is) y.all in
-            let block : block_of y.older d.task ≡ own.task.block = sym (same_block y.older d.task) ∙ ((came_mirrors P y.older y.machine y.came).each d.task own.task own.present).block in
+            let block : block_of y.older d.task ≡ own.task.block =
+            sym (same_block y.older d.task) ∙ ((came_mirrors P y.older y.machine y.came).each d.task own.task own.present).block in
             conclude next y.older y.machine y.next y.came e.task e.strand e.action d.task d.strand d.action
             (record {
               step = step;
@@ -312,8 +363,13 @@ module _ (P : tree.Program) (h : List Event) (m : Machine) (leads : Leads P (ope
               all = all;
               fresh = λ a. cut.none (length y.older) d later (stood_head (reverse h) y.older d y.tail) y.task_is a;
               none = λ i b le s tk a. cut.none i b (omega (arith, le, later)) s (tk ∙ y.task_is) a;
-              due = (all, due_of next y.older y.machine y.next y.came d y.tail e.action d.action step.task own.task agree step.permits same.block (block_of y.older d.task) block);
-              trace = subst (λ z. SameTrace names (events_by e.task gp) (events_by z y.older)) (sym y.task_is) (subst (λ z. SameTrace names (events_by e.task gp) z) (sym y.trace) cut.trace);
+              due = (
+                all,
+                due_of next y.older y.machine y.next y.came d y.tail e.action d.action step.task own.task agree step.permits same.block
+                    (block_of y.older d.task) block,
+              );
+              trace = subst (λ z. SameTrace names (events_by e.task gp) (events_by z y.older)) (sym y.task_is)
+                  (subst (λ z. SameTrace names (events_by e.task gp) z) (sym y.trace) cut.trace);
             }) agree
 
   -- ---- the start
@@ -358,7 +414,8 @@ module _ (P : tree.Program) (h : List Event) (m : Machine) (leads : Leads P (ope
             came = refl;
             task = begins P (main_of P) [] 0 0;
             present = refl;
-            same = subst (λ z. IsSameTask ((0, 0) ∷ []) z (begins P (main_of P) [] 0 0)) is (record { which = refl; state = start_is_same ((0, 0) ∷ []) P (main_of P) [] [] tt; block = tt; value = tt });
+            same = subst (λ z. IsSameTask ((0, 0) ∷ []) z (begins P (main_of P) [] 0 0)) is
+                (record { which = refl; state = start_is_same ((0, 0) ∷ []) P (main_of P) [] [] tt; block = tt; value = tt });
             all = tt;
             trace = tt;
             none = λ i d le s tk a. a;
@@ -370,7 +427,8 @@ module _ (P : tree.Program) (h : List Event) (m : Machine) (leads : Leads P (ope
 
   -- ---- the end
 
-  module _ (gp : List Event) (n : Machine) (came_g : Came P gp n) (done : EachEnded n.tasks) (places : List ℕ) (names : Names) (x : IsMatch P (reverse h) gp n places names) where
+  module _ (gp : List Event) (n : Machine) (came_g : Came P gp n) (done : EachEnded n.tasks) (places : List ℕ) (names : Names)
+      (x : IsMatch P (reverse h) gp n places names) where
     get_some : (xs : List Running) (i : ℕ) → i < length xs → (r : Running) × (slice_get xs i ≡ Some r)
     get_some [] i lt = absurd (omega (arith, lt))
     get_some (y ∷ xs) zero lt = (y, refl)
@@ -411,7 +469,8 @@ module _ (P : tree.Program) (h : List Event) (m : Machine) (leads : Leads P (ope
     all_there [] q c l i d s = absurd s
     all_there (e ∷ past) q (k, c, step) l i d (inl s) =
         let t = mates_all past k c (tail_on (reverse h) e past l) e.task (get_below k.tasks e.task step.task step.present) in
-        subst (λ z. Among z places) s.0 (has_at places (reverse h) e.task (length past) e (mate_all t.0 e.task t.1) (stood_head (reverse h) past e l) (inl refl))
+        subst (λ z. Among z places) s.0
+        (has_at places (reverse h) e.task (length past) e (mate_all t.0 e.task t.1) (stood_head (reverse h) past e l) (inl refl))
     all_there (e ∷ past) q (k, c, step) l i d (inr s) = all_there past k c (tail_on (reverse h) e past l) i d s
 
     pub one_cell : (c : ℕ) (v w : ℤ) → slice_get n.cells c ≡ Some v → slice_get m.cells c ≡ Some w → v ≡ w
@@ -437,7 +496,8 @@ module _ (P : tree.Program) (h : List Event) (m : Machine) (leads : Leads P (ope
         counted =
             let k = paired_length (reverse h) gp places x.paired in
             let f = few (length (reverse h)) places k.1 k.2 in
-            let o = many (length (reverse h)) places (λ i lt. (let s = stood_some (reverse h) i lt in all_there (reverse h) m cm (tail_same (reverse h)) i s.0 s.1)) in
+            let o = many (length (reverse h)) places
+            (λ i lt. (let s = stood_some (reverse h) i lt in all_there (reverse h) m cm (tail_same (reverse h)) i s.0 s.1)) in
             let a = length-reverse h in
             let b = ap length is ∙ length-reverse g in
             omega (arith, f, o, k.0, a, b)
@@ -451,7 +511,8 @@ module _ (P : tree.Program) (h : List Event) (m : Machine) (leads : Leads P (ope
             let stays = ended_stays P (reverse h) cut.older cut.mate cut.task w.0 cut.machine m cut.came cut.present w.1 cm cut.tail in
             (x.below t u mt, get_below m.tasks u cut.task (ap (slice_get m.tasks) (sym (x.mates t cut.mate u cut.matched mt)) ∙ stays))
 
-        two : (t u : ℕ) (q r : Running) → Matched names t u → slice_get n.tasks t ≡ Some q → slice_get m.tasks u ≡ Some r → (q.which ≡ r.which) × SameOption (Matched names) q.value r.value
+        two : (t u : ℕ) (q r : Running) → Matched names t u → slice_get n.tasks t ≡ Some q → slice_get m.tasks u ≡ Some r
+            → (q.which ≡ r.which) × SameOption (Matched names) q.value r.value
         two t u q r mt at on =
             let v = some_of q.value (ended_at n.tasks t q done at) in
             let cut = x.tasks t q at in
@@ -467,7 +528,8 @@ module _ (P : tree.Program) (h : List Event) (m : Machine) (leads : Leads P (ope
             let cut = x.tasks t k.0 k.1 in
             let w = some_other names (k.0).value (cut.task).value v.0 cut.same.value v.1 in
             let e = ended_trace P (reverse h) cut.older places cut.mate cut.task w.0 cut.machine m cut.came cut.present w.1 cut.all cm cut.tail in
-            subst (λ z. SameTrace names (events_by t gp) (events_by z (reverse h))) (x.mates t cut.mate u cut.matched mt) (subst (λ z. SameTrace names (events_by t gp) z) (sym e) cut.trace)
+            subst (λ z. SameTrace names (events_by t gp) (events_by z (reverse h))) (x.mates t cut.mate u cut.matched mt)
+            (subst (λ z. SameTrace names (events_by t gp) z) (sym e) cut.trace)
 
 -- ---- lengths
 

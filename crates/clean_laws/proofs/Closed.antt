@@ -1,5 +1,6 @@
 -- Closed sets of places are closed under paths.
-use Rattle.std.proofs.Common.{◌≡◌, ℕ, ◌<◌, ◌≤◌, Bool, true, false, cond, List, [], ◌∷◌, length, reverse, ◌⊎◌, inl, inr, refl, sym, ap, ◌∙◌, subst, arith, if◌then◌else◌, ◌==◌}
+use Rattle.std.proofs.Common.{◌≡◌, ℕ, ◌<◌, ◌≤◌, Bool, true, false, cond, List, [], ◌∷◌, length, reverse}
+use Rattle.std.proofs.Common.{◌⊎◌, inl, inr, refl, sym, ap, ◌∙◌, subst, arith, if◌then◌else◌, ◌==◌}
 use Rattle.std.specs.Prelude.{Some, None, option_map}
 use Rattle.std.proofs.lemmas.Bool.{cases_eq}
 use Rattle.fut_base.specs.declared.record.Value.{Value}
@@ -36,7 +37,8 @@ use Rattle.clean_laws.specs.Laws.{ClosedUnderPaths}
 -- ---- what a step says of a sound list
 
 -- accesses change no block
-block_next : (past : List Event) → ((t : ℕ) → block_of (kept_of past) t ≡ block_of past t) → (task s : ℕ) (a : Action) (t : ℕ) → block_of (kept_of (ev task s a ∷ past)) t ≡ block_of (ev task s a ∷ past) t
+block_next : (past : List Event) → ((t : ℕ) → block_of (kept_of past) t ≡ block_of past t) → (task s : ℕ) (a : Action) (t : ℕ)
+    → block_of (kept_of (ev task s a ∷ past)) t ≡ block_of (ev task s a ∷ past) t
 block_next past ih task s (Reads c n) t = ih t ∙ sym (same (t == task) (block_of past t))
   where
     same : (b : Bool) (x : List ℕ) → (if b then x else x) ≡ x
@@ -59,31 +61,40 @@ same_block (e ∷ past) t = block_next past (same_block past) e.task e.strand e.
 
 -- where a task stands after an action: as before, or on a new strand
 abbrev pub Standing : List Event → ℕ → ℕ → Action → ℕ → Type 0
-Standing past t s a q = ((q < next_task past) × ((frame (ev t s a ∷ past) q).cur ≡ (frame past q).cur)) ⊎ ((next_strand past ≤ (frame (ev t s a ∷ past) q).cur) × ((t ≡ q) ⊎ Makes a q))
+Standing past t s a q = ((q < next_task past) × ((frame (ev t s a ∷ past) q).cur ≡ (frame past q).cur))
+    ⊎ ((next_strand past ≤ (frame (ev t s a ∷ past) q).cur) × ((t ≡ q) ⊎ Makes a q))
 
 module _ (past : List Event) (sp : IsSoundPast past) (t s : ℕ) where
   own_place : (a : Action) (m : MayFollow past (ev t s a)) → Standing past t s a t
   own_place (Reads _ _) m = absurd m.acts
   own_place (Writes _ _) m = absurd m.acts
   own_place (Spawns code c k y args) m =
-      let q = ap (λ (z : Task). z.cur) (if_self t (opened s c y k (frame past t)) (if t == c then begun k (frame past t).fut t else moved s k (frame past t))) in
+      let q = ap (λ (z : Task). z.cur)
+      (if_self t (opened s c y k (frame past t)) (if t == c then begun k (frame past t).fut t else moved s k (frame past t))) in
       inr (omega (arith, q, m.acts.1, m.acts.2), inl refl)
   own_place (Creates code c k y args) m =
       let q = ap (λ (z : Task). z.cur) (if_self t (advanced s y (frame past t)) (if t == c then begun k c t else moved s y (frame past t))) in
       inr (omega (arith, q, m.acts.1, m.acts.2), inl refl)
   own_place (Syncs x) m = inr (omega (arith, sync_cur past sp t s x (frame past t).block, m.acts.0), inl refl)
   own_place (Gets f g x) m = inr (omega (arith, sync_cur past sp t s x [], m.acts.0), inl refl)
-  own_place (Ends v) m = inl ((acting past t s (linked past sp) (Ends v) m).0, ap (λ (z : Task). z.cur) (if_self t (record (frame past t) { ended = true }) (frame past t)))
+  own_place (Ends v) m = inl
+      ((acting past t s (linked past sp) (Ends v) m).0, ap (λ (z : Task). z.cur) (if_self t (record (frame past t) { ended = true }) (frame past t)))
 
   kid_place : (a : Action) (m : MayFollow past (ev t s a)) (q : ℕ) → q ≡ next_task past → q < next_task (ev t s a ∷ past) → Standing past t s a q
   kid_place (Reads _ _) m q e l = absurd m.acts
   kid_place (Writes _ _) m q e l = absurd m.acts
   kid_place (Spawns code c k y args) m q e l =
       let k1 = kid_spawn past sp t s code c k y args m in
-      inr (subst (λ z. next_strand past ≤ (frame (ev t s (Spawns code c k y args) ∷ past) z).cur) (m.acts.0 ∙ sym e) (omega (arith, k1, m.acts.1)), inr (m.acts.0 ∙ sym e))
+      inr (
+        subst (λ z. next_strand past ≤ (frame (ev t s (Spawns code c k y args) ∷ past) z).cur) (m.acts.0 ∙ sym e) (omega (arith, k1, m.acts.1)),
+        inr (m.acts.0 ∙ sym e),
+      )
   kid_place (Creates code c k y args) m q e l =
       let k1 = kid_create past sp t s code c k y args m in
-      inr (subst (λ z. next_strand past ≤ (frame (ev t s (Creates code c k y args) ∷ past) z).cur) (m.acts.0 ∙ sym e) (omega (arith, k1, m.acts.1)), inr (m.acts.0 ∙ sym e))
+      inr (
+        subst (λ z. next_strand past ≤ (frame (ev t s (Creates code c k y args) ∷ past) z).cur) (m.acts.0 ∙ sym e) (omega (arith, k1, m.acts.1)),
+        inr (m.acts.0 ∙ sym e),
+      )
   kid_place (Syncs x) m q e l = absurd (omega arith)
   kid_place (Gets f g x) m q e l = absurd (omega arith)
   kid_place (Ends v) m q e l = absurd (omega arith)
@@ -98,7 +109,8 @@ module _ (past : List Event) (sp : IsSoundPast past) (t s : ℕ) where
   ]
 
   -- an edge begins on the strand of the event, or on the last one of a task for which it waited
-  source : (a : Action) (m : MayFollow past (ev t s a)) (p v : ℕ) → Among (p, v) (edges_by past t s a) → (s ≡ p) ⊎ ((d : ℕ) × Among d (waited_by (block_of past t) a) × (last_of past d ≡ Some p))
+  source : (a : Action) (m : MayFollow past (ev t s a)) (p v : ℕ) → Among (p, v) (edges_by past t s a)
+      → (s ≡ p) ⊎ ((d : ℕ) × Among d (waited_by (block_of past t) a) × (last_of past d ≡ Some p))
   source (Reads _ _) m p v h = absurd h
   source (Writes _ _) m p v h = absurd h
   source (Spawns _ _ _ _ _) m p v (inl q) = inl (ap (λ (z : ℕ × ℕ). z.0) q)
@@ -135,7 +147,8 @@ module _ (past : List Event) (e : Event) (sound : IsSoundPast (kept_of past)) (s
   pub strand_lt : e.strand < next_strand (kept_of past)
   strand_lt = let c = ((inv (kept_of past) sound).each e.task frame_here.0).cur_in in subst (λ z. z < next_strand (kept_of past)) frame_here.1 c
 
-pub strand_in : (past : List Event) → IsSoundPast (kept_of past) → AreStanding past → (i : ℕ) (d : Event) → Stood past i d → d.strand < next_strand (kept_of past)
+pub strand_in : (past : List Event) → IsSoundPast (kept_of past) → AreStanding past → (i : ℕ) (d : Event) → Stood past i d
+    → d.strand < next_strand (kept_of past)
 strand_in [] sound standing i d h = absurd h
 strand_in (x ∷ past) sound standing i d (inl h) =
     let rest = sound_rest (structural x.action) x (kept_of past) sound in
@@ -150,22 +163,29 @@ strand_in (x ∷ past) sound standing i d (inr h) =
 
 -- from the strand of an event to that on which a task stands: the event is among the places that concern the task
 abbrev pub Covers : List ℕ → List Event → Type 0
-Covers places past = (t i : ℕ) (d : Event) → t < next_task (kept_of past) → Stood past i d → Far (layers (kept_of past)) d.strand (frame (kept_of past) t).cur → HasAll places past t → Among i places
+Covers places past = (t i : ℕ) (d : Event) → t < next_task (kept_of past) → Stood past i d → Far (layers (kept_of past)) d.strand (frame (kept_of past) t).cur
+    → HasAll places past t → Among i places
 
-module _ (places : List ℕ) (past : List Event) (e : Event) (sound : IsSoundPast (kept_of past)) (all : AreStanding past) (standing : IsStanding past e) (due : Among (length past) places → IsDue places past e) (ih : Covers places past) where
+module _ (places : List ℕ) (past : List Event) (e : Event) (sound : IsSoundPast (kept_of past)) (all : AreStanding past) (standing : IsStanding past e)
+    (due : Among (length past) places → IsDue places past e) (ih : Covers places past) where
   -- the task stands where it stood before the event
-  stay : (t i : ℕ) (d : Event) → t < next_task (kept_of past) → Stood (e ∷ past) i d → Far (layers (kept_of past)) d.strand (frame (kept_of past) t).cur → HasAll places (e ∷ past) t → Among i places
+  stay : (t i : ℕ) (d : Event) → t < next_task (kept_of past) → Stood (e ∷ past) i d → Far (layers (kept_of past)) d.strand (frame (kept_of past) t).cur
+      → HasAll places (e ∷ past) t → Among i places
   stay t i d l (inl h) f has =
       let here = frame_here past e sound standing in
-      let from : Far (layers (kept_of past)) e.strand (frame (kept_of past) t).cur = subst (λ (z : Event). Far (layers (kept_of past)) z.strand (frame (kept_of past) t).cur) (sym h.1) f in
+      let from : Far (layers (kept_of past)) e.strand (frame (kept_of past) t).cur =
+      subst (λ (z : Event). Far (layers (kept_of past)) z.strand (frame (kept_of past) t).cur) (sym h.1) f in
       let same : (frame (kept_of past) t).cur ≡ e.strand =
-      current_ends_paths (kept_of past) sound e.task e.strand (frame (kept_of past) t).cur (cur_here past e sound standing) (run_here past e sound standing) (reach_of_far (kept_of past) e.strand (frame (kept_of past) t).cur from) in
-      let one : e.task ≡ t = sym ((inv (kept_of past) sound).each e.task here.0).owns ∙ ap (own_of (kept_of past)) (here.1 ∙ sym same) ∙ ((inv (kept_of past) sound).each t l).owns in
+      current_ends_paths (kept_of past) sound e.task e.strand (frame (kept_of past) t).cur (cur_here past e sound standing) (run_here past e sound standing)
+      (reach_of_far (kept_of past) e.strand (frame (kept_of past) t).cur from) in
+      let one : e.task ≡ t = sym ((inv (kept_of past) sound).each e.task here.0).owns ∙ ap (own_of (kept_of past)) (here.1 ∙ sym same)
+      ∙ ((inv (kept_of past) sound).each t l).owns in
       subst (λ z. Among z places) h.0 (has.1 (inl one))
   stay t i d l (inr h) f has = ih t i d l h f has.0
 
   -- a path to a new strand comes from the event
-  comes : (may : MayFollow (kept_of past) e) (i : ℕ) (d : Event) (v : ℕ) → next_strand (kept_of past) ≤ v → Stood (e ∷ past) i d → Far (layers (e ∷ kept_of past)) d.strand v → Among (length past) places → Among i places
+  comes : (may : MayFollow (kept_of past) e) (i : ℕ) (d : Event) (v : ℕ) → next_strand (kept_of past) ≤ v → Stood (e ∷ past) i d
+      → Far (layers (e ∷ kept_of past)) d.strand v → Among (length past) places → Among i places
   comes may i d v new (inl h) f among = subst (λ z. Among z places) h.0 among
   comes may i d v new (inr h) f among =
       let here = frame_here past e sound standing in
@@ -176,19 +196,24 @@ module _ (places : List ℕ) (past : List Event) (e : Event) (sound : IsSoundPas
           | inr w ↦ (
               let last = last_is (kept_of past) sound w.0 k.0 w.2 in
               let there : Among w.0 (waited past e) = subst (λ (l : List ℕ). Among w.0 (waited_by l e.action)) (same_block past e.task) w.1 in
-              ih w.0 i d (is_task (kept_of past) sound w.0 last.0) h (subst (λ z. Far (layers (kept_of past)) d.strand z) (sym last.1) k.1) (has_of places past (waited past e) w.0 there (due among).1))
+              ih w.0 i d (is_task (kept_of past) sound w.0 last.0) h (subst (λ z. Far (layers (kept_of past)) d.strand z) (sym last.1) k.1)
+              (has_of places past (waited past e) w.0 there (due among).1))
         ]
       ]
 
-  next : (b : Bool) → IsSoundPast (cond b (e ∷ kept_of past) (kept_of past)) → (t i : ℕ) (d : Event) → t < next_task (cond b (e ∷ kept_of past) (kept_of past)) → Stood (e ∷ past) i d
-      → Far (layers (cond b (e ∷ kept_of past) (kept_of past))) d.strand (frame (cond b (e ∷ kept_of past) (kept_of past)) t).cur → HasAll places (e ∷ past) t → Among i places
+  next : (b : Bool) → IsSoundPast (cond b (e ∷ kept_of past) (kept_of past)) → (t i : ℕ) (d : Event)
+      → t < next_task (cond b (e ∷ kept_of past) (kept_of past)) → Stood (e ∷ past) i d
+      → Far (layers (cond b (e ∷ kept_of past) (kept_of past))) d.strand (frame (cond b (e ∷ kept_of past) (kept_of past)) t).cur → HasAll places (e ∷ past) t
+      → Among i places
   next false sp t i d l h f has = stay t i d l h f has
   next true sp t i d l h f has =
       elim (placed (kept_of past) sound e.task e.strand e.action sp.1 t l) [
         | inl o ↦ (
             let lt = ((inv (kept_of past) sound).each t o.0).cur_in in
             let old : Far (layers (e ∷ kept_of past)) d.strand (frame (kept_of past) t).cur = subst (λ z. Far (layers (e ∷ kept_of past)) d.strand z) o.1 f in
-            stay t i d o.0 h (far_old (edges_by (kept_of past) e.task e.strand e.action) (layers (kept_of past)) (next_strand (kept_of past)) (next_strand (e ∷ kept_of past)) (layer_up (kept_of past) e sound sp.1) d.strand (frame (kept_of past) t).cur lt old) has)
+            stay t i d o.0 h
+            (far_old (edges_by (kept_of past) e.task e.strand e.action) (layers (kept_of past)) (next_strand (kept_of past))
+            (next_strand (e ∷ kept_of past)) (layer_up (kept_of past) e sound sp.1) d.strand (frame (kept_of past) t).cur lt old) has)
         | inr n ↦ comes sp.1 i d (frame (e ∷ kept_of past) t).cur n.0 h f (has.1 n.1)
       ]
 
@@ -198,8 +223,10 @@ covers places (e ∷ past) sound standing closed t i d l h f has =
     let rest = sound_rest (structural e.action) e (kept_of past) sound in
     next places past e rest standing.0 standing.1 closed.1 (covers places past rest standing.0 closed.0) (structural e.action) sound t i d l h f has
 
-far_down : (b : Bool) (e : Event) (rest : List Event) → IsSoundPast (cond b (e ∷ rest) rest) → (u v : ℕ) → v < next_strand rest → Far (layers (cond b (e ∷ rest) rest)) u v → Far (layers rest) u v
-far_down true e rest sp u v lt f = far_old (edges_by rest e.task e.strand e.action) (layers rest) (next_strand rest) (next_strand (e ∷ rest)) (layer_up rest e sp.0 sp.1) u v lt f
+far_down : (b : Bool) (e : Event) (rest : List Event) → IsSoundPast (cond b (e ∷ rest) rest) → (u v : ℕ) → v < next_strand rest
+    → Far (layers (cond b (e ∷ rest) rest)) u v → Far (layers rest) u v
+far_down true e rest sp u v lt f =
+    far_old (edges_by rest e.task e.strand e.action) (layers rest) (next_strand rest) (next_strand (e ∷ rest)) (layer_up rest e sp.0 sp.1) u v lt f
 far_down false e rest sp u v lt f = f
 
 pub closed_past : (places : List ℕ) (past : List Event) → IsSoundPast (kept_of past) → AreStanding past → IsClosed places past → (i j : ℕ) (a b : Event)
@@ -212,10 +239,12 @@ closed_past places (x ∷ past) sound standing closed i j a b (inr ha) (inl hb) 
     let here = frame_here past x rest standing.1 in
     let to : Far (layers (kept_of (x ∷ past))) a.strand x.strand = subst (λ (z : Event). Far (layers (kept_of (x ∷ past))) a.strand z.strand) (sym hb.1) f in
     let down = far_down (structural x.action) x (kept_of past) sound a.strand x.strand (strand_lt past x rest standing.1) to in
-    covers places past rest standing.0 closed.0 x.task i a here.0 ha (subst (λ z. Far (layers (kept_of past)) a.strand z) (sym here.1) down) (closed.1 (subst (λ z. Among z places) (sym hb.0) among)).0
+    covers places past rest standing.0 closed.0 x.task i a here.0 ha (subst (λ z. Far (layers (kept_of past)) a.strand z) (sym here.1) down)
+    (closed.1 (subst (λ z. Among z places) (sym hb.0) among)).0
 closed_past places (x ∷ past) sound standing closed i j a b (inr ha) (inr hb) lt f among =
     let rest = sound_rest (structural x.action) x (kept_of past) sound in
-    closed_past places past rest standing.0 closed.0 i j a b ha hb lt (far_down (structural x.action) x (kept_of past) sound a.strand b.strand (strand_in past rest standing.0 j b hb) f) among
+    closed_past places past rest standing.0 closed.0 i j a b ha hb lt
+    (far_down (structural x.action) x (kept_of past) sound a.strand b.strand (strand_in past rest standing.0 j b hb) f) among
 
 -- ---- legal histories
 
@@ -234,5 +263,7 @@ pub closed_under_paths : ClosedUnderPaths
 closed_under_paths P h places (m, l) closed i j a b ea eb lt r among =
     let c = came P h m l in
     let sound = came_sound P (reverse h) m c in
-    let reach = subst (λ es. Rattle.fut_base.specs.Dag.ReachesBy es a.strand b.strand) (sym (structure_has_edges h) ∙ ap edges_past (reverse_filter (λ e. structural e.action) h)) r in
-    closed_past places (reverse h) sound (came_standing P (reverse h) m c) closed i j a b (stood_of h i a ea) (stood_of h j b eb) lt (far_of_reach (kept_of (reverse h)) sound a.strand b.strand reach) among
+    let reach = subst (λ es. Rattle.fut_base.specs.Dag.ReachesBy es a.strand b.strand)
+    (sym (structure_has_edges h) ∙ ap edges_past (reverse_filter (λ e. structural e.action) h)) r in
+    closed_past places (reverse h) sound (came_standing P (reverse h) m c) closed i j a b (stood_of h i a ea) (stood_of h j b eb) lt
+    (far_of_reach (kept_of (reverse h)) sound a.strand b.strand reach) among

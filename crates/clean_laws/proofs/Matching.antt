@@ -70,7 +70,8 @@ wider_block names more w (c ∷ cs) (d ∷ ds) h = (w c d h.0, wider_block names
 wider_block names more w [] (d ∷ ds) h = absurd h
 wider_block names more w (c ∷ cs) [] h = absurd h
 
-wider_option : (names more : Names) → Wider (Matched names) (Matched more) → (o p : Option Value) → SameOption (Matched names) o p → SameOption (Matched more) o p
+wider_option : (names more : Names) → Wider (Matched names) (Matched more) → (o p : Option Value) → SameOption (Matched names) o p
+    → SameOption (Matched more) o p
 wider_option names more w None None h = tt
 wider_option names more w (Some x) (Some y) h = wider_value (Matched names) (Matched more) w x y h
 wider_option names more w None (Some y) h = absurd h
@@ -78,7 +79,12 @@ wider_option names more w (Some x) None h = absurd h
 
 pub wider_task : (names more : Names) → Wider (Matched names) (Matched more) → (q r : Running) → IsSameTask names q r → IsSameTask more q r
 wider_task names more w q r h =
-    record { which = h.which; state = same_is_wider names more q.state r.state w h.state; block = wider_block names more w q.block r.block h.block; value = wider_option names more w q.value r.value h.value }
+    record {
+      which = h.which;
+      state = same_is_wider names more q.state r.state w h.state;
+      block = wider_block names more w q.block r.block h.block;
+      value = wider_option names more w q.value r.value h.value;
+    }
 
 pub wider_trace : (names more : Names) → Wider (Matched names) (Matched more) → (es ds : List Event) → SameTrace names es ds → SameTrace more es ds
 wider_trace names more w [] [] h = tt
@@ -92,7 +98,8 @@ block_end names (x ∷ cs) (y ∷ ds) c d h m = (h.0, block_end names cs ds c d 
 block_end names [] (y ∷ ds) c d h m = absurd h
 block_end names (x ∷ cs) [] c d h m = absurd h
 
-same_block_after : (names : Names) (a b : Action) (cs ds : List ℕ) → SameAction (Matched names) a b → SameBlock names cs ds → SameBlock names (block_after a cs) (block_after b ds)
+same_block_after : (names : Names) (a b : Action) (cs ds : List ℕ) → SameAction (Matched names) a b → SameBlock names cs ds
+    → SameBlock names (block_after a cs) (block_after b ds)
 same_block_after names (Spawns _ c _ _ _) (Spawns _ d _ _ _) cs ds s h = block_end names cs ds c d h s.1
 same_block_after names (Reads _ _) (Reads _ _) cs ds s h = h
 same_block_after names (Writes _ _) (Writes _ _) cs ds s h = h
@@ -102,7 +109,8 @@ same_block_after names (Gets _ _ _) (Gets _ _ _) cs ds s h = h
 same_block_after names (Ends _) (Ends _) cs ds s h = h
 same_block_after names _ _ cs ds s h = absurd s
 
-same_value_by : (names : Names) (a b : Action) (o p : Option Value) → SameAction (Matched names) a b → SameOption (Matched names) o p → SameOption (Matched names) (value_by a o) (value_by b p)
+same_value_by : (names : Names) (a b : Action) (o p : Option Value) → SameAction (Matched names) a b → SameOption (Matched names) o p
+    → SameOption (Matched names) (value_by a o) (value_by b p)
 same_value_by names (Ends v) (Ends w) o p s h = s
 same_value_by names (Reads _ _) (Reads _ _) o p s h = h
 same_value_by names (Writes _ _) (Writes _ _) o p s h = h
@@ -112,9 +120,15 @@ same_value_by names (Syncs _) (Syncs _) o p s h = h
 same_value_by names (Gets _ _ _) (Gets _ _ _) o p s h = h
 same_value_by names _ _ o p s h = absurd s
 
-pub same_acted : (names : Names) (q r : Running) (stop at : TaskState) (a b : Action) → IsSameTask names q r → IsSameState (Matched names) stop at → SameAction (Matched names) a b → IsSameTask names (acted q stop a) (acted r at b)
+pub same_acted : (names : Names) (q r : Running) (stop at : TaskState) (a b : Action) → IsSameTask names q r → IsSameState (Matched names) stop at
+    → SameAction (Matched names) a b → IsSameTask names (acted q stop a) (acted r at b)
 same_acted names q r stop at a b h s k =
-    record { which = h.which; state = effect_is_same names stop at a b s k; block = same_block_after names a b q.block r.block k h.block; value = same_value_by names a b q.value r.value k h.value }
+    record {
+      which = h.which;
+      state = effect_is_same names stop at a b s k;
+      block = same_block_after names a b q.block r.block k h.block;
+      value = same_value_by names a b q.value r.value k h.value;
+    }
 
 -- ---- a child of the other run and its mate
 
@@ -128,9 +142,11 @@ pub record Born (P : tree.Program) (names : Names) (n m : Machine) (d : Event) (
 
 -- ---- the step
 
-module _ (P : tree.Program) (hp gp : List Event) (n next : Machine) (e : Event) (step : IsStep P n e next) (places : List ℕ) (names more : Names) (x : IsMatch P hp gp n places names)
+module _ (P : tree.Program) (hp gp : List Event) (n next : Machine) (e : Event) (step : IsStep P n e next) (places : List ℕ) (names more : Names)
+    (x : IsMatch P hp gp n places names)
     (older : List Event) (d : Event) (tail : IsTail hp (d ∷ older)) (m after : Machine) (came_m : Came P older m) (own : IsStep P m d after)
-    (matched : Matched names e.task d.task) (all : HasAll places older d.task) (fresh : Among (length older) places → ⊥) (none : (i : ℕ) (b : Event) → length older ≤ i → Stood hp i b → b.task ≡ d.task → Among i places → ⊥)
+    (matched : Matched names e.task d.task) (all : HasAll places older d.task) (fresh : Among (length older) places → ⊥)
+    (none : (i : ℕ) (b : Event) → length older ≤ i → Stood hp i b → b.task ≡ d.task → Among i places → ⊥)
     (due : IsDue places older d) (touch : SameTouch e.action d.action) (wider : Wider (Matched names) (Matched more))
     (trace : SameTrace names (events_by e.task gp) (events_by d.task older)) (action : SameAction (Matched more) e.action d.action) (came_g : Came P gp n)
     (same : IsSameTask more (acted step.task step.stop e.action) (acted own.task own.stop d.action))
@@ -155,7 +171,9 @@ module _ (P : tree.Program) (hp gp : List Event) (n next : Machine) (e : Event) 
             | inl l ↦ fresh (has_at places cut.older u (length older) d there (stood_head cut.older older d l) (inr mk))
             | inr l ↦ elim l [
               | inl s ↦ fresh (has_at places cut.older u (length older) d there (subst (λ z. Stood z (length older) d) s (inl (refl, refl))) (inr mk))
-              | inr l ↦ (let g = tasks_grow P older cut.older m cut.machine came_m l cut.came in let b = get_below cut.machine.tasks u cut.task present in omega (arith, g, b, new))
+              | inr l ↦
+                  (let g = tasks_grow P older cut.older m cut.machine came_m l cut.came in let b =
+                  get_below cut.machine.tasks u cut.task present in omega (arith, g, b, new))
             ]
           ]
 
@@ -172,7 +190,8 @@ module _ (P : tree.Program) (hp gp : List Event) (n next : Machine) (e : Event) 
   old_place i a = a
 
   -- after d none of these places has an event of the task
-  none_after : (u : ℕ) → ((i : ℕ) (b : Event) → length older ≤ i → Stood hp i b → b.task ≡ u → Among i places → ⊥) → (i : ℕ) (b : Event) → length (d ∷ older) ≤ i → Stood hp i b → b.task ≡ u → Among i (length older ∷ places) → ⊥
+  none_after : (u : ℕ) → ((i : ℕ) (b : Event) → length older ≤ i → Stood hp i b → b.task ≡ u → Among i places → ⊥) → (i : ℕ) (b : Event)
+      → length (d ∷ older) ≤ i → Stood hp i b → b.task ≡ u → Among i (length older ∷ places) → ⊥
   none_after u f i b le s t (inl q) = omega (arith, le, q)
   none_after u f i b le s t (inr a) = f i b (omega (arith, le)) s t a
 
@@ -191,7 +210,8 @@ module _ (P : tree.Program) (hp gp : List Event) (n next : Machine) (e : Event) 
         all = (has_more (length older) places older d.task all, λ c. inl refl);
         none = none_after d.task none;
         trace = subst (λ z. SameTrace more z (events_by d.task (d ∷ older))) (sym (by_on e gp e.task refl))
-            (subst (λ z. SameTrace more (e ∷ events_by e.task gp) z) (sym (by_on d older d.task refl)) (action, wider_trace names more wider (events_by e.task gp) (events_by d.task older) trace));
+            (subst (λ z. SameTrace more (e ∷ events_by e.task gp) z) (sym (by_on d older d.task refl))
+            (action, wider_trace names more wider (events_by e.task gp) (events_by d.task older) trace));
       }
 
   other_cut : (t : ℕ) (q : Running) → t ≢ e.task → slice_get n.tasks t ≡ Some q → Cut P hp (e ∷ gp) (length older ∷ places) more t q
@@ -208,9 +228,13 @@ module _ (P : tree.Program) (hp gp : List Event) (n next : Machine) (e : Event) 
         present = cut.present;
         same = wider_task names more wider q cut.task cut.same;
         all = has_more (length older) places cut.older cut.mate cut.all;
-        trace = subst (λ z. SameTrace more z (events_by cut.mate cut.older)) (sym (by_off e gp t (λ k. ne (sym k)))) (wider_trace names more wider (events_by t gp) (events_by cut.mate cut.older) cut.trace);
+        trace = subst (λ z. SameTrace more z (events_by cut.mate cut.older)) (sym (by_off e gp t (λ k. ne (sym k))))
+            (wider_trace names more wider (events_by t gp) (events_by cut.mate cut.older) cut.trace);
         none = λ i b le s tk a. (elim (old_place i a) [
-          | inl p ↦ ne (x.single t e.task cut.mate cut.matched (subst (Matched names e.task) (ap (λ (z : Event). z.task) (stood_one hp i d b (subst (λ z. Stood hp z d) p here) s) ∙ tk) matched))
+          | inl p ↦
+              ne
+              (x.single t e.task cut.mate cut.matched
+              (subst (Matched names e.task) (ap (λ (z : Event). z.task) (stood_one hp i d b (subst (λ z. Stood hp z d) p here) s) ∙ tk) matched))
           | inr a ↦ cut.none i b le s tk a
         ]);
       }
@@ -230,8 +254,13 @@ module _ (P : tree.Program) (hp gp : List Event) (n next : Machine) (e : Event) 
         same = b.same;
         all = (has_more (length older) places older b.mate (has_unborn P places older m b.mate came_m (omega (arith, new))), λ c. inl refl);
         trace = subst (λ z. SameTrace more z (events_by b.mate (d ∷ older)))
-            (sym (by_off e gp t (λ k. (let lt = get_below n.tasks e.task step.task step.present in omega (arith, lt, k, at))) ∙ unborn_by P gp n t came_g (omega (arith, at))))
-            (subst (λ z. SameTrace more [] z) (sym (by_off d older b.mate (λ k. (let lt = get_below m.tasks d.task own.task own.present in omega (arith, lt, k, new))) ∙ unborn_by P older m b.mate came_m (omega (arith, new)))) tt);
+            (sym
+            (by_off e gp t (λ k. (let lt = get_below n.tasks e.task step.task step.present in omega (arith, lt, k, at)))
+            ∙ unborn_by P gp n t came_g (omega (arith, at))))
+            (subst (λ z. SameTrace more [] z)
+            (sym
+            (by_off d older b.mate (λ k. (let lt = get_below m.tasks d.task own.task own.present in omega (arith, lt, k, new)))
+            ∙ unborn_by P older m b.mate came_m (omega (arith, new)))) tt);
         none = none_after b.mate (λ i y le s tk a. not_there i y le s b.mate tk a b.makes);
       }
     where
@@ -260,13 +289,16 @@ module _ (P : tree.Program) (hp gp : List Event) (n next : Machine) (e : Event) 
       record {
         paired = (x.paired, (d, here, touch), fresh, x.closed);
         closed = closed_more places hp older d tail x.closed due;
-        tasks = λ t q is. (elim (get_after n.tasks (child_of P step.task e.action) e.task (acted step.task step.stop e.action) step.task step.present t q (subst (λ (z : Machine). slice_get z.tasks t ≡ Some q) step.gives is)) [
-          | inl o ↦ subst (λ z. Cut P hp (e ∷ gp) (length older ∷ places) more z q) (sym o.0) (own_cut q o.1)
-          | inr o ↦ elim o [
-            | inl o ↦ other_cut t q o.0 o.1
-            | inr b ↦ (let k = born q b.0 b.2 in child_cut t q (at_end b.0 b.1 k.0) k.1)
-          ]
-        ]);
+        tasks =
+            λ t q is.
+            (elim (get_after n.tasks (child_of P step.task e.action) e.task (acted step.task step.stop e.action) step.task step.present t q
+            (subst (λ (z : Machine). slice_get z.tasks t ≡ Some q) step.gives is)) [
+              | inl o ↦ subst (λ z. Cut P hp (e ∷ gp) (length older ∷ places) more z q) (sym o.0) (own_cut q o.1)
+              | inr o ↦ elim o [
+                | inl o ↦ other_cut t q o.0 o.1
+                | inr b ↦ (let k = born q b.0 b.2 in child_cut t q (at_end b.0 b.1 k.0) k.1)
+              ]
+            ]);
         below = λ t u k. (elim (pairs t u k) [ inl o ↦ (let b = x.below t u o in omega (arith, b, one_more)) | inr o ↦ o.2 ]);
         mates = λ t u v a b. two_mates t u v (pairs t u a) (pairs t v b);
         single = λ t s u a b. one_mate t s u (pairs t u a) (pairs s u b);
@@ -280,13 +312,15 @@ module _ (P : tree.Program) (hp gp : List Event) (n next : Machine) (e : Event) 
       at_end : {t : ℕ} (k : ℕ) → t ≡ length n.tasks + k → k ≡ 0 → t ≡ length n.tasks
       at_end k at z = omega (arith, at, z)
 
-      two_mates : (t u v : ℕ) → Matched names t u ⊎ ((t ≡ length n.tasks) × Makes d.action u × (t < length next.tasks)) → Matched names t v ⊎ ((t ≡ length n.tasks) × Makes d.action v × (t < length next.tasks)) → u ≡ v
+      two_mates : (t u v : ℕ) → Matched names t u ⊎ ((t ≡ length n.tasks) × Makes d.action u × (t < length next.tasks))
+          → Matched names t v ⊎ ((t ≡ length n.tasks) × Makes d.action v × (t < length next.tasks)) → u ≡ v
       two_mates t u v (inl a) (inl b) = x.mates t u v a b
       two_mates t u v (inl a) (inr b) = absurd (let k = x.below t u a in omega (arith, k, b.0))
       two_mates t u v (inr a) (inl b) = absurd (let k = x.below t v b in omega (arith, k, a.0))
       two_mates t u v (inr a) (inr b) = makes_next m own.task d.action u own.permits a.1 ∙ sym (makes_next m own.task d.action v own.permits b.1)
 
-      one_mate : (t s u : ℕ) → Matched names t u ⊎ ((t ≡ length n.tasks) × Makes d.action u × (t < length next.tasks)) → Matched names s u ⊎ ((s ≡ length n.tasks) × Makes d.action u × (s < length next.tasks)) → t ≡ s
+      one_mate : (t s u : ℕ) → Matched names t u ⊎ ((t ≡ length n.tasks) × Makes d.action u × (t < length next.tasks))
+          → Matched names s u ⊎ ((s ≡ length n.tasks) × Makes d.action u × (s < length next.tasks)) → t ≡ s
       one_mate t s u (inl a) (inl b) = x.single t s u a b
       one_mate t s u (inl a) (inr b) = absurd (none_made t u a b.1)
       one_mate t s u (inr a) (inl b) = absurd (none_made s u b a.1)

@@ -38,7 +38,14 @@ pub conflict_in : (P : tree.Program) (h : List Event) (m : Machine) → Leads P 
     → (c i j : ℕ) (a b : Event) → Stood (reverse h) i a → Stood (reverse h) j b → i < j → Conflict c a b → Among j places → Among i places
 conflict_in P h m l clean places closed c i j a b ha hb lt k among = elim (among_or_not i places) [
   | inl on_it ↦ on_it
-  | inr off ↦ absurd (clean c i j (record { order = lt; events = (a, b, get_of h i a ha, get_of h j b hb, record { one = k.one; other = k.other; write = k.write; apart = λ joined. off (from joined) }) }))
+  | inr off ↦
+      absurd
+      (clean c i j
+      (record {
+        order = lt;
+        events =
+            (a, b, get_of h i a ha, get_of h j b hb, record { one = k.one; other = k.other; write = k.write; apart = λ joined. off (from joined) });
+      }))
 ]
   where
     steps : IsInStep h
@@ -104,17 +111,20 @@ pair_of hp (y ∷ gp) (k ∷ places) p e j x (inl s) =
       stands = subst (λ z. Stood hp z x.1.0) s.2 x.1.1;
       same = subst (λ (z : Event). SameTouch z.action (x.1.0).action) s.1 x.1.2;
     }
-pair_of hp (y ∷ gp) (k ∷ places) p e j x (inr s) = let r = pair_of hp gp places p e j x.0 s in record { there = inr r.there; among = inr r.among; event = r.event; stands = r.stands; same = r.same }
+pair_of hp (y ∷ gp) (k ∷ places) p e j x (inr s) = let r =
+    pair_of hp gp places p e j x.0 s in record { there = inr r.there; among = inr r.among; event = r.event; stands = r.stands; same = r.same }
 
 -- where closed sets have j with j', the events that are paired with them stand in that order
-in_order : (hp gp : List Event) (places : List ℕ) (p p' : ℕ) (e e' : Event) (j j' : ℕ) → Paired hp gp places → j ≢ j' → ((ps : List ℕ) → IsClosed ps hp → Among j' ps → Among j ps)
+in_order : (hp gp : List Event) (places : List ℕ) (p p' : ℕ) (e e' : Event) (j j' : ℕ) → Paired hp gp places → j ≢ j'
+    → ((ps : List ℕ) → IsClosed ps hp → Among j' ps → Among j ps)
     → At gp places p e j → At gp places p' e' j' → p < p'
 in_order hp [] places p p' e e' j j' x ne f a b = absurd a
 in_order hp (y ∷ gp) [] p p' e e' j j' x ne f a b = absurd a
 in_order hp (y ∷ gp) (k ∷ places) p p' e e' j j' x ne f (inl a) (inl b) = absurd (ne (sym a.2 ∙ b.2))
 in_order hp (y ∷ gp) (k ∷ places) p p' e e' j j' x ne f (inl a) (inr b) =
     absurd (x.2 (subst (λ z. Among z places) (sym a.2) (f places x.3 (pair_of hp gp places p' e' j' x.0 b).among)))
-in_order hp (y ∷ gp) (k ∷ places) p p' e e' j j' x ne f (inr a) (inl b) = let lt = stood_lt gp p e (pair_of hp gp places p e j x.0 a).there in omega (arith, lt, b.0)
+in_order hp (y ∷ gp) (k ∷ places) p p' e e' j j' x ne f (inr a) (inl b) = let lt =
+    stood_lt gp p e (pair_of hp gp places p e j x.0 a).there in omega (arith, lt, b.0)
 in_order hp (y ∷ gp) (k ∷ places) p p' e e' j j' x ne f (inr a) (inr b) = in_order hp gp places p p' e e' j j' x.0 ne f a b
 
 -- a write is paired with the same write
@@ -136,7 +146,8 @@ writes_of a c v is = (subst (IsAccess c) (sym is) refl, subst IsWrite (sym is) t
 
 -- ---- the value of a cell
 
-module _ (P : tree.Program) (h gp : List Event) (m n : Machine) (places : List ℕ) (leads : Leads P (opening P) h m) (clean : IsClean h) (paired : Paired (reverse h) gp places) where
+module _ (P : tree.Program) (h gp : List Event) (m n : Machine) (places : List ℕ) (leads : Leads P (opening P) h m) (clean : IsClean h)
+    (paired : Paired (reverse h) gp places) where
   -- the cell after the other run, and after a beginning of the history that has the writes of the places, and no others
   pub same_cell : (older : List Event) (q : Machine) (c : ℕ) (v w : ℤ) → IsTail (reverse h) older → Came P older q → Came P gp n
       → ((i : ℕ) (d : Event) (x : ℤ) → Stood older i d → d.action ≡ Writes c x → Among i places)
@@ -145,7 +156,8 @@ module _ (P : tree.Program) (h gp : List Event) (m n : Machine) (places : List �
   same_cell older q c v w tail came_h came_g below above at_g at_h = by_cases (cell_came P gp n c v came_g at_g) (cell_came P older q c w came_h at_h)
     where
       -- a write of the other run is one of the beginning
-      onto : (p : ℕ) (e : Event) (x : ℤ) → Stood gp p e → e.action ≡ Writes c x → (j : ℕ) × (d : Event) × Stood older j d × (d.action ≡ Writes c x) × At gp places p e j
+      onto : (p : ℕ) (e : Event) (x : ℤ) → Stood gp p e → e.action ≡ Writes c x
+          → (j : ℕ) × (d : Event) × Stood older j d × (d.action ≡ Writes c x) × At gp places p e j
       onto p e x s is =
           let a = at_stood (reverse h) gp places p e paired s in
           let r = pair_of (reverse h) gp places p e a.0 paired a.1 in
@@ -153,7 +165,8 @@ module _ (P : tree.Program) (h gp : List Event) (m n : Machine) (places : List �
           (a.0, r.event, stood_down (reverse h) older a.0 r.event tail r.stands (above a.0 r.event x r.stands ws r.among), ws, a.1)
 
       -- and one of the beginning is one of the other run
-      back : (i : ℕ) (d : Event) (x : ℤ) → Stood older i d → d.action ≡ Writes c x → (p : ℕ) × (e : Event) × Stood gp p e × (e.action ≡ Writes c x) × At gp places p e i
+      back : (i : ℕ) (d : Event) (x : ℤ) → Stood older i d → d.action ≡ Writes c x
+          → (p : ℕ) × (e : Event) × Stood gp p e × (e.action ≡ Writes c x) × At gp places p e i
       back i d x s is =
           let a = at_among (reverse h) gp places i paired (below i d x s is) in
           let r = pair_of (reverse h) gp places a.0 a.1 i paired a.2 in
@@ -170,12 +183,20 @@ module _ (P : tree.Program) (h gp : List Event) (m n : Machine) (places : List �
           let le : o.0 ≤ l.place = l.last o.0 o.1 v o.2 o.3 in
           let ge : b.0 ≤ g.place = g.last b.0 b.1 w b.2 b.3 in
           elim (cases_eq o.0 l.place) [
-            | inl same ↦ values (sym o.3 ∙ ap (λ (z : Event). z.action) (stood_one older l.place o.1 l.event (subst (λ z. Stood older z o.1) same o.2) l.there) ∙ l.writes)
+            | inl same ↦
+                values
+                (sym o.3 ∙ ap (λ (z : Event). z.action) (stood_one older l.place o.1 l.event (subst (λ z. Stood older z o.1) same o.2) l.there) ∙ l.writes)
             | inr ne ↦ absurd (
                 let lt : o.0 < l.place = omega (arith, le, ne) in
-                let conflict : Conflict c o.1 l.event = record { one = (writes_of (o.1).action c v o.3).0; other = (writes_of (l.event).action c w l.writes).0; write = inl (writes_of (o.1).action c v o.3).1 } in
+                let conflict : Conflict c o.1 l.event =
+                record {
+                  one = (writes_of (o.1).action c v o.3).0;
+                  other = (writes_of (l.event).action c w l.writes).0;
+                  write = inl (writes_of (o.1).action c v o.3).1;
+                } in
                 let f : (ps : List ℕ) → IsClosed ps (reverse h) → Among l.place ps → Among o.0 ps =
-                λ ps closed a. conflict_in P h m leads clean ps closed c o.0 l.place o.1 l.event (stood_tail (reverse h) older o.0 o.1 tail o.2) (stood_tail (reverse h) older l.place l.event tail l.there) lt conflict a in
+                λ ps closed a. conflict_in P h m leads clean ps closed c o.0 l.place o.1 l.event (stood_tail (reverse h) older o.0 o.1 tail o.2)
+                (stood_tail (reverse h) older l.place l.event tail l.there) lt conflict a in
                 let before = in_order (reverse h) gp places g.place b.0 g.event b.1 o.0 l.place paired ne f o.4 b.4 in
                 omega (arith, before, ge))
           ]

@@ -43,7 +43,8 @@ has_down places [] older t l h = subst (λ z. HasAll places z t) (sym l) h
 has_down places (x ∷ past) older t (inl l) h = subst (λ z. HasAll places z t) l h
 has_down places (x ∷ past) older t (inr l) h = has_down places past older t l h.0
 
-pub due_at : (places : List ℕ) (past older : List Event) (d : Event) → IsTail past (d ∷ older) → IsClosed places past → Among (length older) places → IsDue places older d
+pub due_at : (places : List ℕ) (past older : List Event) (d : Event) → IsTail past (d ∷ older) → IsClosed places past → Among (length older) places
+    → IsDue places older d
 due_at places [] older d l closed a = absurd (let z : d ∷ older ≡ [] = l in cc)
 due_at places (x ∷ past) older d (inl l) closed a = (subst (IsClosed places) l closed).1 a
 due_at places (x ∷ past) older d (inr l) closed a = due_at places past older d l closed.0 a
@@ -57,10 +58,12 @@ closed_add j places (x ∷ past) le c = (closed_add j places past (omega (arith,
     old (inr a) = a
 
 -- a place may come to a closed set where what has to come before it is there
-pub closed_more : (places : List ℕ) (past older : List Event) (d : Event) → IsTail past (d ∷ older) → IsClosed places past → IsDue places older d → IsClosed (length older ∷ places) past
+pub closed_more : (places : List ℕ) (past older : List Event) (d : Event) → IsTail past (d ∷ older) → IsClosed places past → IsDue places older d
+    → IsClosed (length older ∷ places) past
 closed_more places [] older d l c due = tt
 closed_more places (x ∷ past) older d (inl l) c due =
-    subst (IsClosed (length older ∷ places)) (sym l) (closed_add (length older) places older (omega arith) (subst (IsClosed places) l c).0, λ a. due_more (length older) places older d due)
+    subst (IsClosed (length older ∷ places)) (sym l)
+    (closed_add (length older) places older (omega arith) (subst (IsClosed places) l c).0, λ a. due_more (length older) places older d due)
 closed_more places (x ∷ past) older d (inr l) c due = (closed_more places past older d l c.0 due, λ a. due_more (length older) places past x (c.1 (old a)))
   where
     old : Among (length past) (length older ∷ places) → Among (length past) places
@@ -90,10 +93,13 @@ makes_one (Ends _) u k = absurd k
 pub count_step : (P : tree.Program) (m : Machine) (e : Event) (n : Machine) → IsStep P m e n → length n.tasks ≡ length m.tasks + tasks_by e.action
 count_step P m e n step = ap (λ (z : Machine). length z.tasks) step.gives ∙ task_count P m e step.task step.stop
 
-pub tasks_grow : (P : tree.Program) (past older : List Event) (m q : Machine) → Came P past m → IsTail past older → Came P older q → length q.tasks ≤ length m.tasks
-tasks_grow P [] older m q c l d = let k : length q.tasks ≡ length m.tasks = ap (λ (z : Machine). length z.tasks) (came_one P [] q m (subst (λ z. Came P z q) l d) c) in omega (arith, k)
+pub tasks_grow : (P : tree.Program) (past older : List Event) (m q : Machine) → Came P past m → IsTail past older → Came P older q
+    → length q.tasks ≤ length m.tasks
+tasks_grow P [] older m q c l d = let k : length q.tasks ≡ length m.tasks =
+    ap (λ (z : Machine). length z.tasks) (came_one P [] q m (subst (λ z. Came P z q) l d) c) in omega (arith, k)
 tasks_grow P (x ∷ past) older m q c (inl l) d =
-    let k : length q.tasks ≡ length m.tasks = ap (λ (z : Machine). length z.tasks) (came_one P (x ∷ past) q m (subst (λ z. Came P z q) (sym l) d) c) in omega (arith, k)
+    let k : length q.tasks ≡ length m.tasks =
+    ap (λ (z : Machine). length z.tasks) (came_one P (x ∷ past) q m (subst (λ z. Came P z q) (sym l) d) c) in omega (arith, k)
 tasks_grow P (x ∷ past) older m q c (inr l) d = let k = tasks_grow P past older c.0 q c.1 l d in let g = count_step P c.0 x m c.2 in omega (arith, k, g)
 
 -- no event concerns a task that is not there yet
@@ -142,17 +148,61 @@ pub record Next (P : tree.Program) (hp before : List Event) (places : List ℕ) 
 not_new : (P : tree.Program) (q n : Machine) (x : Event) (u : ℕ) (r : Running) → IsStep P q x n → slice_get q.tasks u ≡ Some r → Makes x.action u → ⊥
 not_new P q n x u r step present k = let a = makes_next q step.task x.action u step.permits k in let b = get_below q.tasks u r present in omega (arith, a, b)
 
-pub walk : (P : tree.Program) (hp before : List Event) (places : List ℕ) (u : ℕ) (r : Running) (q m : Machine) → Came P before q → slice_get q.tasks u ≡ Some r → HasAll places before u → Came P hp m → IsTail hp before
+pub walk : (P : tree.Program) (hp before : List Event) (places : List ℕ) (u : ℕ) (r : Running) (q m : Machine) → Came P before q
+    → slice_get q.tasks u ≡ Some r → HasAll places before u → Came P hp m → IsTail hp before
     → Next P hp before places u r ⊎ ((slice_get m.tasks u ≡ Some r) × HasAll places hp u × (events_by u hp ≡ events_by u before))
 walk P [] before places u r q m cb present has c l =
-    inr (subst (λ (z : Machine). slice_get z.tasks u ≡ Some r) (came_one P [] q m (subst (λ z. Came P z q) l cb) c) present, tt, ap (λ z. events_by u z) (sym l))
+    inr (
+      subst (λ (z : Machine). slice_get z.tasks u ≡ Some r) (came_one P [] q m (subst (λ z. Came P z q) l cb) c) present,
+      tt,
+      ap (λ z. events_by u z) (sym l),
+    )
 walk P (x ∷ hp) before places u r q m cb present has c (inl l) =
-    inr (subst (λ (z : Machine). slice_get z.tasks u ≡ Some r) (came_one P (x ∷ hp) q m (subst (λ z. Came P z q) (sym l) cb) c) present, subst (λ z. HasAll places z u) (sym l) has, ap (λ z. events_by u z) l)
+    inr (
+      subst (λ (z : Machine). slice_get z.tasks u ≡ Some r) (came_one P (x ∷ hp) q m (subst (λ z. Came P z q) (sym l) cb) c) present,
+      subst (λ z. HasAll places z u) (sym l) has,
+      ap (λ z. events_by u z) l,
+    )
 walk P (x ∷ hp) before places u r q m cb present has (k, c, step) (inr l) = elim (walk P hp before places u r q k cb present has c l) [
-  | inl n ↦ inl (record { older = n.older; event = n.event; tail = inr n.tail; later = n.later; machine = n.machine; came = n.came; present = n.present; next = n.next; step = n.step; task_is = n.task_is; all = n.all; trace = n.trace })
+  | inl n ↦
+      inl
+      (record {
+        older = n.older;
+        event = n.event;
+        tail = inr n.tail;
+        later = n.later;
+        machine = n.machine;
+        came = n.came;
+        present = n.present;
+        next = n.next;
+        step = n.step;
+        task_is = n.task_is;
+        all = n.all;
+        trace = n.trace;
+      })
   | inr s ↦ elim (cases_eq x.task u) [
-    | inl e ↦ inl (record { older = hp; event = x; tail = inl refl; later = tail_short hp before l; machine = k; came = c; present = s.0; next = m; step = step; task_is = e; all = s.1; trace = s.2 })
-    | inr ne ↦ inr (others_stay P k x m u r step (λ e. ne (sym e)) s.0, (s.1, λ z. absurd (elim z [ inl e ↦ ne e | inr mk ↦ not_new P k m x u r step s.0 mk ])), by_off x hp u ne ∙ s.2)
+    | inl e ↦
+        inl
+        (record {
+          older = hp;
+          event = x;
+          tail = inl refl;
+          later = tail_short hp before l;
+          machine = k;
+          came = c;
+          present = s.0;
+          next = m;
+          step = step;
+          task_is = e;
+          all = s.1;
+          trace = s.2;
+        })
+    | inr ne ↦
+        inr (
+          others_stay P k x m u r step (λ e. ne (sym e)) s.0,
+          (s.1, λ z. absurd (elim z [ inl e ↦ ne e | inr mk ↦ not_new P k m x u r step s.0 mk ])),
+          by_off x hp u ne ∙ s.2,
+        )
   ]
 ]
 
@@ -160,25 +210,37 @@ none_some : (v : Value) (o : Option Value) → o ≡ Some v → o ≡ None → �
 none_some v o a b = let z = sym a ∙ b in cc
 
 -- a task that has ended stays as it is
-pub ended_stays : (P : tree.Program) (hp before : List Event) (u : ℕ) (r : Running) (v : Value) (q m : Machine) → Came P before q → slice_get q.tasks u ≡ Some r → r.value ≡ Some v → Came P hp m → IsTail hp before → slice_get m.tasks u ≡ Some r
-ended_stays P [] before u r v q m cb present ended c l = subst (λ (z : Machine). slice_get z.tasks u ≡ Some r) (came_one P [] q m (subst (λ z. Came P z q) l cb) c) present
-ended_stays P (x ∷ hp) before u r v q m cb present ended c (inl l) = subst (λ (z : Machine). slice_get z.tasks u ≡ Some r) (came_one P (x ∷ hp) q m (subst (λ z. Came P z q) (sym l) cb) c) present
+pub ended_stays : (P : tree.Program) (hp before : List Event) (u : ℕ) (r : Running) (v : Value) (q m : Machine) → Came P before q
+    → slice_get q.tasks u ≡ Some r → r.value ≡ Some v → Came P hp m → IsTail hp before → slice_get m.tasks u ≡ Some r
+ended_stays P [] before u r v q m cb present ended c l =
+    subst (λ (z : Machine). slice_get z.tasks u ≡ Some r) (came_one P [] q m (subst (λ z. Came P z q) l cb) c) present
+ended_stays P (x ∷ hp) before u r v q m cb present ended c (inl l) =
+    subst (λ (z : Machine). slice_get z.tasks u ≡ Some r) (came_one P (x ∷ hp) q m (subst (λ z. Came P z q) (sym l) cb) c) present
 ended_stays P (x ∷ hp) before u r v q m cb present ended (k, c, step) (inr l) =
     let s = ended_stays P hp before u r v q k cb present ended c l in
-    others_stay P k x m u r step (λ e. none_some v r.value ended (ap (λ (z : Running). z.value) (same_Some _ _ (sym s ∙ ap (slice_get k.tasks) e ∙ step.present)) ∙ step.running)) s
+    others_stay P k x m u r step
+    (λ e. none_some v r.value ended (ap (λ (z : Running). z.value) (same_Some _ _ (sym s ∙ ap (slice_get k.tasks) e ∙ step.present)) ∙ step.running)) s
 
 -- and all its events are there
-pub ended_all : (P : tree.Program) (hp before : List Event) (places : List ℕ) (u : ℕ) (r : Running) (v : Value) (q m : Machine) → Came P before q → slice_get q.tasks u ≡ Some r → r.value ≡ Some v → HasAll places before u → Came P hp m → IsTail hp before
+pub ended_all : (P : tree.Program) (hp before : List Event) (places : List ℕ) (u : ℕ) (r : Running) (v : Value) (q m : Machine) → Came P before q
+    → slice_get q.tasks u ≡ Some r → r.value ≡ Some v → HasAll places before u → Came P hp m → IsTail hp before
     → HasAll places hp u
 ended_all P hp before places u r v q m cb present ended has c l = elim (walk P hp before places u r q m cb present has c l) [
   | inr s ↦ s.1
-  | inl n ↦ absurd (none_some v r.value ended (ap (λ (z : Running). z.value) (same_Some _ _ (sym n.present ∙ ap (slice_get n.machine.tasks) (sym n.task_is) ∙ n.step.present)) ∙ n.step.running))
+  | inl n ↦
+      absurd
+      (none_some v r.value ended
+      (ap (λ (z : Running). z.value) (same_Some _ _ (sym n.present ∙ ap (slice_get n.machine.tasks) (sym n.task_is) ∙ n.step.present)) ∙ n.step.running))
 ]
 
 -- and there is no other one
-pub ended_trace : (P : tree.Program) (hp before : List Event) (places : List ℕ) (u : ℕ) (r : Running) (v : Value) (q m : Machine) → Came P before q → slice_get q.tasks u ≡ Some r → r.value ≡ Some v → HasAll places before u → Came P hp m → IsTail hp before
+pub ended_trace : (P : tree.Program) (hp before : List Event) (places : List ℕ) (u : ℕ) (r : Running) (v : Value) (q m : Machine) → Came P before q
+    → slice_get q.tasks u ≡ Some r → r.value ≡ Some v → HasAll places before u → Came P hp m → IsTail hp before
     → events_by u hp ≡ events_by u before
 ended_trace P hp before places u r v q m cb present ended has c l = elim (walk P hp before places u r q m cb present has c l) [
   | inr s ↦ s.2
-  | inl n ↦ absurd (none_some v r.value ended (ap (λ (z : Running). z.value) (same_Some _ _ (sym n.present ∙ ap (slice_get n.machine.tasks) (sym n.task_is) ∙ n.step.present)) ∙ n.step.running))
+  | inl n ↦
+      absurd
+      (none_some v r.value ended
+      (ap (λ (z : Running). z.value) (same_Some _ _ (sym n.present ∙ ap (slice_get n.machine.tasks) (sym n.task_is) ∙ n.step.present)) ∙ n.step.running))
 ]

@@ -1,5 +1,6 @@
 -- Options read one after the other.
-use Rattle.std.proofs.Common.{◌≡◌, ℕ, ◌+◌, ◌≤◌, ◌<◌, ◌^◌, Bool, true, false, List, [], ◌∷◌, ◌++◌, length, refl, sym, ap, ◌∙◌, subst, arith, codes, decimal, map, get_or, Result, Ok, append_assoc}
+use Rattle.std.proofs.Common.{◌≡◌, ℕ, ◌+◌, ◌≤◌, ◌<◌, ◌^◌, Bool, true, false, List, [], ◌∷◌, ◌++◌, length, refl}
+use Rattle.std.proofs.Common.{sym, ap, ◌∙◌, subst, arith, codes, decimal, map, get_or, Result, Ok, append_assoc}
 use Rattle.std.specs.Prelude.{nat_lt, Option, Some, is_some}
 use Rattle.std.specs.Str.Parse.{ParsesUnsigned}
 use Rattle.std.proofs.lemmas.Fmt.{parse-decimal, decimal_injective, first_decimal}
@@ -10,11 +11,13 @@ use Rattle.command_words.specs.declared.options.Kind.{Kind}
 use Rattle.command_words.specs.declared.options.Choice.{Choice}
 use Rattle.command_words.specs.declared.options.Choice.TheVariants as choice
 use Rattle.command_words.specs.declared.options.Seen as declared
-use Rattle.command_words.specs.Asking.{IsFromOneTo, IsInRange, is_option_of, MayStand, EachMayStand, spelling, spellings, times, count, IsOnce, is_events, is_brief, is_workers, is_side, bound_of, is_brief_in, workers_of, side_of, unnamed_workers, AreOptions}
+use Rattle.command_words.specs.Asking.{IsFromOneTo, IsInRange, is_option_of, MayStand, EachMayStand, spelling, spellings, times, count, IsOnce, is_events}
+use Rattle.command_words.specs.Asking.{is_brief, is_workers, is_side, bound_of, is_brief_in, workers_of, side_of, unnamed_workers, AreOptions}
 use Rattle.command_words.specs.Seen.{IsSeen, IsAgain}
 
 -- the number that a written one is read as
-pub read_number : {E : Type 0} (most n : ℕ) (bs : List ℕ) (r : Result ℕ E) → most < 2 ^ 32 → IsFromOneTo most n → bs ≡ decimal n → ParsesUnsigned 32 10 bs r → r ≡ Ok n
+pub read_number : {E : Type 0} (most n : ℕ) (bs : List ℕ) (r : Result ℕ E) → most < 2 ^ 32 → IsFromOneTo most n → bs ≡ decimal n → ParsesUnsigned 32 10 bs r
+    → r ≡ Ok n
 read_number most n bs r few b e p = parse-decimal 32 n bs r (omega (arith, few, b.1)) (omega (arith, few, b.1)) e p
 
 -- options that were read, and the words behind them
@@ -33,9 +36,11 @@ each_more k (d ∷ ds) c each may = (each.0, each_more k ds c each.1 may)
 spellings_more : (cs : List Choice) (c : Choice) (rest : List (List ℕ)) → spellings cs ++ (spelling c ++ rest) ≡ spellings (cs ++ c ∷ []) ++ rest
 spellings_more [] c rest = ap (λ x. x ++ rest) (sym (append-nil (spelling c)))
 spellings_more (d ∷ ds) c rest =
-    append_assoc (spelling d) (spellings ds) (spelling c ++ rest) ∙ (ap (λ x. spelling d ++ x) (spellings_more ds c rest) ∙ sym (append_assoc (spelling d) (spellings (ds ++ c ∷ [])) rest))
+    append_assoc (spelling d) (spellings ds) (spelling c ++ rest)
+    ∙ (ap (λ x. spelling d ++ x) (spellings_more ds c rest) ∙ sym (append_assoc (spelling d) (spellings (ds ++ c ∷ [])) rest))
 
-pub one_more : (k : Kind) (words rest more : List (List ℕ)) (seen new : declared.Seen) (c : Choice) (so_far : IsSoFar k words rest seen) → rest ≡ spelling c ++ more → MayStand k c → IsSeen (unnamed_workers k) (so_far.done ++ c ∷ []) new → IsSoFar k words more new
+pub one_more : (k : Kind) (words rest more : List (List ℕ)) (seen new : declared.Seen) (c : Choice) (so_far : IsSoFar k words rest seen)
+    → rest ≡ spelling c ++ more → MayStand k c → IsSeen (unnamed_workers k) (so_far.done ++ c ∷ []) new → IsSoFar k words more new
 one_more k words rest more seen new c so_far is may seen_is = record {
   done = so_far.done ++ c ∷ [];
   written = so_far.written ∙ (ap (λ x. spellings so_far.done ++ x) is ∙ spellings_more so_far.done c more);
@@ -116,7 +121,8 @@ record IsSplit (k : Kind) (done cs : List Choice) (rest : List (List ℕ)) : Typ
   allowed : EachMayStand k more
   written : rest ≡ spellings more
 
-splits : (k : Kind) (done cs : List Choice) (rest : List (List ℕ)) → EachMayStand k done → EachMayStand k cs → spellings cs ≡ spellings done ++ rest → IsSplit k done cs rest
+splits : (k : Kind) (done cs : List Choice) (rest : List (List ℕ)) → EachMayStand k done → EachMayStand k cs → spellings cs ≡ spellings done ++ rest
+    → IsSplit k done cs rest
 splits w [] cs rest a b e = record { more = cs; is = refl; allowed = b; written = sym e }
 splits w (d ∷ ds) [] rest a b e = absurd (spelling_some d (spellings ds ++ rest) (sym (e ∙ append_assoc (spelling d) (spellings ds) rest)))
 splits w (d ∷ ds) (c ∷ cs) rest a b e =
@@ -132,41 +138,58 @@ splits w (d ∷ ds) (c ∷ cs) rest a b e =
 -- ---- no options
 
 -- words that begin with `--events` or `--workers` and no number in range behind it
-pub no_events : (words rest : List (List ℕ)) → words ≡ codes "--events" ∷ rest → ((n : ℕ) (more : List (List ℕ)) → IsFromOneTo MOST_ENTRIES n → rest ≡ decimal n ∷ more → ⊥) → (c : Choice) (more : List (List ℕ)) → IsInRange c → words ≡ spelling c ++ more → ⊥
+pub no_events : (words rest : List (List ℕ)) → words ≡ codes "--events" ∷ rest
+    → ((n : ℕ) (more : List (List ℕ)) → IsFromOneTo MOST_ENTRIES n → rest ≡ decimal n ∷ more → ⊥) → (c : Choice) (more : List (List ℕ)) → IsInRange c
+    → words ≡ spelling c ++ more → ⊥
 no_events words rest is none (choice.Events n) more range e =
     let both : codes "--events" ∷ rest ≡ codes "--events" ∷ (decimal n ∷ more) = sym is ∙ e in
     none n more range cc
-no_events words rest is none choice.Brief more range e = let q : codes "--events" ≡ codes "--brief" = (let both : codes "--events" ∷ rest ≡ codes "--brief" ∷ more = sym is ∙ e in cc) in cc
-no_events words rest is none (choice.Workers n) more range e = let q : codes "--events" ≡ codes "--workers" = (let both : codes "--events" ∷ rest ≡ codes "--workers" ∷ (decimal n ∷ more) = sym is ∙ e in cc) in cc
-no_events words rest is none (choice.Side n) more range e = no_dash n (codes "--events") range refl (let both : codes "--events" ∷ rest ≡ decimal n ∷ more = sym is ∙ e in cc)
+no_events words rest is none choice.Brief more range e = let q : codes "--events" ≡ codes "--brief" =
+    (let both : codes "--events" ∷ rest ≡ codes "--brief" ∷ more = sym is ∙ e in cc) in cc
+no_events words rest is none (choice.Workers n) more range e = let q : codes "--events" ≡ codes "--workers" =
+    (let both : codes "--events" ∷ rest ≡ codes "--workers" ∷ (decimal n ∷ more) = sym is ∙ e in cc) in cc
+no_events words rest is none (choice.Side n) more range e =
+    no_dash n (codes "--events") range refl (let both : codes "--events" ∷ rest ≡ decimal n ∷ more = sym is ∙ e in cc)
 
-pub no_crew : (words rest : List (List ℕ)) → words ≡ codes "--workers" ∷ rest → ((n : ℕ) (more : List (List ℕ)) → IsFromOneTo MOST_WORKERS n → rest ≡ decimal n ∷ more → ⊥) → (c : Choice) (more : List (List ℕ)) → IsInRange c → words ≡ spelling c ++ more → ⊥
-no_crew words rest is none (choice.Events n) more range e = let q : codes "--workers" ≡ codes "--events" = (let both : codes "--workers" ∷ rest ≡ codes "--events" ∷ (decimal n ∷ more) = sym is ∙ e in cc) in cc
-no_crew words rest is none choice.Brief more range e = let q : codes "--workers" ≡ codes "--brief" = (let both : codes "--workers" ∷ rest ≡ codes "--brief" ∷ more = sym is ∙ e in cc) in cc
+pub no_crew : (words rest : List (List ℕ)) → words ≡ codes "--workers" ∷ rest
+    → ((n : ℕ) (more : List (List ℕ)) → IsFromOneTo MOST_WORKERS n → rest ≡ decimal n ∷ more → ⊥) → (c : Choice) (more : List (List ℕ)) → IsInRange c
+    → words ≡ spelling c ++ more → ⊥
+no_crew words rest is none (choice.Events n) more range e = let q : codes "--workers" ≡ codes "--events" =
+    (let both : codes "--workers" ∷ rest ≡ codes "--events" ∷ (decimal n ∷ more) = sym is ∙ e in cc) in cc
+no_crew words rest is none choice.Brief more range e = let q : codes "--workers" ≡ codes "--brief" =
+    (let both : codes "--workers" ∷ rest ≡ codes "--brief" ∷ more = sym is ∙ e in cc) in cc
 no_crew words rest is none (choice.Workers n) more range e =
     let both : codes "--workers" ∷ rest ≡ codes "--workers" ∷ (decimal n ∷ more) = sym is ∙ e in
     none n more range cc
-no_crew words rest is none (choice.Side n) more range e = no_dash n (codes "--workers") range refl (let both : codes "--workers" ∷ rest ≡ decimal n ∷ more = sym is ∙ e in cc)
+no_crew words rest is none (choice.Side n) more range e =
+    no_dash n (codes "--workers") range refl (let both : codes "--workers" ∷ rest ≡ decimal n ∷ more = sym is ∙ e in cc)
 
 -- words that begin with no option's word and no number in range
-pub no_side : (words : List (List ℕ)) → ((more : List (List ℕ)) → words ≡ codes "--brief" ∷ more → ⊥) → ((more : List (List ℕ)) → words ≡ codes "--events" ∷ more → ⊥) → ((more : List (List ℕ)) → words ≡ codes "--workers" ∷ more → ⊥) → ((n : ℕ) (more : List (List ℕ)) → IsFromOneTo MOST_SIDE n → words ≡ decimal n ∷ more → ⊥) → (c : Choice) (more : List (List ℕ)) → IsInRange c → words ≡ spelling c ++ more → ⊥
+pub no_side : (words : List (List ℕ)) → ((more : List (List ℕ)) → words ≡ codes "--brief" ∷ more → ⊥)
+    → ((more : List (List ℕ)) → words ≡ codes "--events" ∷ more → ⊥) → ((more : List (List ℕ)) → words ≡ codes "--workers" ∷ more → ⊥)
+    → ((n : ℕ) (more : List (List ℕ)) → IsFromOneTo MOST_SIDE n → words ≡ decimal n ∷ more → ⊥) → (c : Choice) (more : List (List ℕ)) → IsInRange c
+    → words ≡ spelling c ++ more → ⊥
 no_side words brief events workers side (choice.Events n) more range e = events (decimal n ∷ more) e
 no_side words brief events workers side choice.Brief more range e = brief more e
 no_side words brief events workers side (choice.Workers n) more range e = workers (decimal n ∷ more) e
 no_side words brief events workers side (choice.Side n) more range e = side n more range e
 
 -- words that begin with an option that the command does not have
-pub no_option : (k : Kind) (words rest : List (List ℕ)) (d : Choice) → IsInRange d → words ≡ spelling d ++ rest → is_option_of k d ≡ false → (c : Choice) (more : List (List ℕ)) → MayStand k c → words ≡ spelling c ++ more → ⊥
+pub no_option : (k : Kind) (words rest : List (List ℕ)) (d : Choice) → IsInRange d → words ≡ spelling d ++ rest → is_option_of k d ≡ false
+    → (c : Choice) (more : List (List ℕ)) → MayStand k c → words ≡ spelling c ++ more → ⊥
 no_option k words rest d range is other c more may e =
     let same = one_spelling c d more rest may.1 range (sym e ∙ is) in
     let both : true ≡ false = sym may.0 ∙ (ap (is_option_of k) same.choice ∙ other) in cc
 
-no_first : (k : Kind) (rest : List (List ℕ)) (more : List Choice) → (rest ≡ [] → ⊥) → ((c : Choice) (more : List (List ℕ)) → MayStand k c → rest ≡ spelling c ++ more → ⊥) → EachMayStand k more → rest ≡ spellings more → ⊥
+no_first : (k : Kind) (rest : List (List ℕ)) (more : List Choice) → (rest ≡ [] → ⊥)
+    → ((c : Choice) (more : List (List ℕ)) → MayStand k c → rest ≡ spelling c ++ more → ⊥) → EachMayStand k more → rest ≡ spellings more → ⊥
 no_first k rest [] some none each e = some e
 no_first k rest (c ∷ cs) some none each e = none c (spellings cs) each.0 e
 
 -- the words that are left begin with no option
-pub none_begins : (k : Kind) (words rest : List (List ℕ)) (seen : declared.Seen) → IsSoFar k words rest seen → (rest ≡ [] → ⊥) → ((c : Choice) (more : List (List ℕ)) → MayStand k c → rest ≡ spelling c ++ more → ⊥) → (events : ℕ) (brief : Bool) (crew : ℕ) (side : Option ℕ) → AreOptions k words events brief crew side → ⊥
+pub none_begins : (k : Kind) (words rest : List (List ℕ)) (seen : declared.Seen) → IsSoFar k words rest seen → (rest ≡ [] → ⊥)
+    → ((c : Choice) (more : List (List ℕ)) → MayStand k c → rest ≡ spelling c ++ more → ⊥) → (events : ℕ) (brief : Bool) (crew : ℕ) (side : Option ℕ)
+    → AreOptions k words events brief crew side → ⊥
 none_begins k words rest seen so_far some none events brief crew side are =
     let s = splits k so_far.done are.choices rest so_far.allowed are.allowed (sym are.written ∙ so_far.written) in
     no_first k rest s.more some none s.allowed s.written
@@ -177,18 +200,27 @@ count_append p (x ∷ xs) ys = let tail = count_append p xs ys in omega (arith, 
 
 -- an option that was chosen twice
 twice : (done more : List Choice) (c : Choice) → IsAgain done c → IsOnce (done ++ c ∷ more) → ⊥
-twice done more (choice.Events n) again once = let both : count is_events (done ++ choice.Events n ∷ more) ≡ count is_events done + (1 + count is_events more) = count_append is_events done (choice.Events n ∷ more) in omega (arith, once.events, both, again)
-twice done more choice.Brief again once = let both : count is_brief (done ++ choice.Brief ∷ more) ≡ count is_brief done + (1 + count is_brief more) = count_append is_brief done (choice.Brief ∷ more) in omega (arith, once.brief, both, again)
-twice done more (choice.Workers n) again once = let both : count is_workers (done ++ choice.Workers n ∷ more) ≡ count is_workers done + (1 + count is_workers more) = count_append is_workers done (choice.Workers n ∷ more) in omega (arith, once.workers, both, again)
-twice done more (choice.Side n) again once = let both : count is_side (done ++ choice.Side n ∷ more) ≡ count is_side done + (1 + count is_side more) = count_append is_side done (choice.Side n ∷ more) in omega (arith, once.side, both, again)
+twice done more (choice.Events n) again once =
+    let both : count is_events (done ++ choice.Events n ∷ more) ≡ count is_events done + (1 + count is_events more) =
+    count_append is_events done (choice.Events n ∷ more) in omega (arith, once.events, both, again)
+twice done more choice.Brief again once = let both : count is_brief (done ++ choice.Brief ∷ more) ≡ count is_brief done + (1 + count is_brief more) =
+    count_append is_brief done (choice.Brief ∷ more) in omega (arith, once.brief, both, again)
+twice done more (choice.Workers n) again once =
+    let both : count is_workers (done ++ choice.Workers n ∷ more) ≡ count is_workers done + (1 + count is_workers more) =
+    count_append is_workers done (choice.Workers n ∷ more) in omega (arith, once.workers, both, again)
+twice done more (choice.Side n) again once = let both : count is_side (done ++ choice.Side n ∷ more) ≡ count is_side done + (1 + count is_side more) =
+    count_append is_side done (choice.Side n ∷ more) in omega (arith, once.side, both, again)
 
-again_first : (k : Kind) (done : List Choice) (rest more : List (List ℕ)) (c : Choice) (cs : List Choice) → rest ≡ spelling c ++ more → MayStand k c → IsAgain done c → EachMayStand k cs → rest ≡ spellings cs → IsOnce (done ++ cs) → ⊥
+again_first : (k : Kind) (done : List Choice) (rest more : List (List ℕ)) (c : Choice) (cs : List Choice) → rest ≡ spelling c ++ more → MayStand k c
+    → IsAgain done c → EachMayStand k cs → rest ≡ spellings cs → IsOnce (done ++ cs) → ⊥
 again_first k done rest more c [] is may again each e once = spelling_some c more (sym is ∙ e)
 again_first k done rest more c (d ∷ ds) is may again each e once =
     let same = one_spelling c d more (spellings ds) may.1 each.0.1 (sym is ∙ e) in
     twice done ds c again (subst (λ x. IsOnce (done ++ x ∷ ds)) (sym same.choice) once)
 
-pub doubled : (k : Kind) (words rest more : List (List ℕ)) (seen : declared.Seen) (c : Choice) (so_far : IsSoFar k words rest seen) → rest ≡ spelling c ++ more → MayStand k c → IsAgain so_far.done c → (events : ℕ) (brief : Bool) (crew : ℕ) (side : Option ℕ) → AreOptions k words events brief crew side → ⊥
+pub doubled : (k : Kind) (words rest more : List (List ℕ)) (seen : declared.Seen) (c : Choice) (so_far : IsSoFar k words rest seen)
+    → rest ≡ spelling c ++ more → MayStand k c → IsAgain so_far.done c → (events : ℕ) (brief : Bool) (crew : ℕ) (side : Option ℕ)
+    → AreOptions k words events brief crew side → ⊥
 doubled k words rest more seen c so_far is may again events brief crew side are =
     let s = splits k so_far.done are.choices rest so_far.allowed are.allowed (sym are.written ∙ so_far.written) in
     again_first k so_far.done rest more c s.more is may again s.allowed s.written (subst IsOnce s.is are.once)
@@ -249,7 +281,9 @@ side_new (choice.Side m ∷ cs) n e = let one : 1 + count is_side cs ≡ 0 = e i
 none_more : (n : ℕ) → n + (0 + 0) ≡ n
 none_more n = omega arith
 
-pub seen_events : (unnamed : ℕ) (cs : List Choice) (seen new : declared.Seen) (n : ℕ) → IsSeen unnamed cs seen → seen.events ≡ false → new.bound ≡ n → new.events ≡ true → new.brief ≡ seen.brief → new.workers ≡ seen.workers → new.crew ≡ seen.crew → new.side ≡ seen.side → IsSeen unnamed (cs ++ choice.Events n ∷ []) new
+pub seen_events : (unnamed : ℕ) (cs : List Choice) (seen new : declared.Seen) (n : ℕ) → IsSeen unnamed cs seen → seen.events ≡ false → new.bound ≡ n
+    → new.events ≡ true → new.brief ≡ seen.brief → new.workers ≡ seen.workers → new.crew ≡ seen.crew → new.side ≡ seen.side
+    → IsSeen unnamed (cs ++ choice.Events n ∷ []) new
 seen_events unnamed cs seen new n s none b e f w k d =
     let zero : count is_events cs ≡ 0 = s.events ∙ ap times none in
     record {
@@ -262,7 +296,9 @@ seen_events unnamed cs seen new n s none b e f w k d =
       side = d ∙ (s.side ∙ sym (side_kept cs (choice.Events n) refl));
     }
 
-pub seen_brief : (unnamed : ℕ) (cs : List Choice) (seen new : declared.Seen) → IsSeen unnamed cs seen → seen.brief ≡ false → new.bound ≡ seen.bound → new.events ≡ seen.events → new.brief ≡ true → new.workers ≡ seen.workers → new.crew ≡ seen.crew → new.side ≡ seen.side → IsSeen unnamed (cs ++ choice.Brief ∷ []) new
+pub seen_brief : (unnamed : ℕ) (cs : List Choice) (seen new : declared.Seen) → IsSeen unnamed cs seen → seen.brief ≡ false → new.bound ≡ seen.bound
+    → new.events ≡ seen.events → new.brief ≡ true → new.workers ≡ seen.workers → new.crew ≡ seen.crew → new.side ≡ seen.side
+    → IsSeen unnamed (cs ++ choice.Brief ∷ []) new
 seen_brief unnamed cs seen new s none b e f w k d =
     let zero : count is_brief cs ≡ 0 = s.brief ∙ ap times none in
     record {
@@ -275,7 +311,9 @@ seen_brief unnamed cs seen new s none b e f w k d =
       side = d ∙ (s.side ∙ sym (side_kept cs choice.Brief refl));
     }
 
-pub seen_workers : (unnamed : ℕ) (cs : List Choice) (seen new : declared.Seen) (n : ℕ) → IsSeen unnamed cs seen → seen.workers ≡ false → new.bound ≡ seen.bound → new.events ≡ seen.events → new.brief ≡ seen.brief → new.workers ≡ true → new.crew ≡ n → new.side ≡ seen.side → IsSeen unnamed (cs ++ choice.Workers n ∷ []) new
+pub seen_workers : (unnamed : ℕ) (cs : List Choice) (seen new : declared.Seen) (n : ℕ) → IsSeen unnamed cs seen → seen.workers ≡ false
+    → new.bound ≡ seen.bound → new.events ≡ seen.events → new.brief ≡ seen.brief → new.workers ≡ true → new.crew ≡ n → new.side ≡ seen.side
+    → IsSeen unnamed (cs ++ choice.Workers n ∷ []) new
 seen_workers unnamed cs seen new n s none b e f w k d =
     let zero : count is_workers cs ≡ 0 = s.workers ∙ ap times none in
     record {
@@ -288,7 +326,9 @@ seen_workers unnamed cs seen new n s none b e f w k d =
       side = d ∙ (s.side ∙ sym (side_kept cs (choice.Workers n) refl));
     }
 
-pub seen_side : (unnamed : ℕ) (cs : List Choice) (seen new : declared.Seen) (n : ℕ) → IsSeen unnamed cs seen → is_some seen.side ≡ false → new.bound ≡ seen.bound → new.events ≡ seen.events → new.brief ≡ seen.brief → new.workers ≡ seen.workers → new.crew ≡ seen.crew → new.side ≡ Some n → IsSeen unnamed (cs ++ choice.Side n ∷ []) new
+pub seen_side : (unnamed : ℕ) (cs : List Choice) (seen new : declared.Seen) (n : ℕ) → IsSeen unnamed cs seen → is_some seen.side ≡ false
+    → new.bound ≡ seen.bound → new.events ≡ seen.events → new.brief ≡ seen.brief → new.workers ≡ seen.workers → new.crew ≡ seen.crew → new.side ≡ Some n
+    → IsSeen unnamed (cs ++ choice.Side n ∷ []) new
 seen_side unnamed cs seen new n s none b e f w k d =
     let zero : count is_side cs ≡ 0 = s.sides ∙ ap times none in
     record {
@@ -311,14 +351,21 @@ times_some : (b : Bool) (n : ℕ) → n ≡ times b → b ≡ nat_lt 0 n
 times_some true n e = ap (nat_lt 0) (sym e)
 times_some false n e = ap (nat_lt 0) (sym e)
 
-pub all_read : (k : Kind) (words rest : List (List ℕ)) (seen : declared.Seen) → IsSoFar k words rest seen → rest ≡ [] → AreOptions k words seen.bound seen.brief seen.crew seen.side
+pub all_read : (k : Kind) (words rest : List (List ℕ)) (seen : declared.Seen) → IsSoFar k words rest seen → rest ≡ []
+    → AreOptions k words seen.bound seen.brief seen.crew seen.side
 all_read k words rest seen so_far none =
     let s = so_far.seen_is in
     record {
       choices = so_far.done;
       written = so_far.written ∙ (ap (λ x. spellings so_far.done ++ x) none ∙ append-nil (spellings so_far.done));
       allowed = so_far.allowed;
-      once = record { events = times_most seen.events _ s.events; brief = times_most seen.brief _ s.brief; workers = times_most seen.workers _ s.workers; side = times_most (is_some seen.side) _ s.sides };
+      once =
+          record {
+            events = times_most seen.events _ s.events;
+            brief = times_most seen.brief _ s.brief;
+            workers = times_most seen.workers _ s.workers;
+            side = times_most (is_some seen.side) _ s.sides;
+          };
       bound = s.bound;
       brief_is = times_some seen.brief _ s.brief;
       workers_are = s.crew;
@@ -336,7 +383,8 @@ one_choices k cs ds a b e =
     let s = splits k cs ds [] a b (sym e ∙ sym (append-nil (spellings cs))) in
     s.is ∙ (ap (λ more. cs ++ more) (nothing_more s.more s.written) ∙ append-nil cs)
 
-pub one_options : (k : Kind) (words : List (List ℕ)) (m n : ℕ) (b d : Bool) (i j : ℕ) (s t : Option ℕ) → AreOptions k words m b i s → AreOptions k words n d j t → (m ≡ n) × (b ≡ d) × (i ≡ j) × (s ≡ t)
+pub one_options : (k : Kind) (words : List (List ℕ)) (m n : ℕ) (b d : Bool) (i j : ℕ) (s t : Option ℕ) → AreOptions k words m b i s
+    → AreOptions k words n d j t → (m ≡ n) × (b ≡ d) × (i ≡ j) × (s ≡ t)
 one_options k words m n b d i j s t p q =
     let same = one_choices k p.choices q.choices p.allowed q.allowed (sym p.written ∙ q.written) in (
       p.bound ∙ (ap bound_of (sym same) ∙ sym q.bound),

@@ -8,7 +8,8 @@ use Rattle.command_words.specs.declared.words.Command.TheVariants as command
 use Rattle.command_words.proofs.Choosing.{one_options}
 use Rattle.command_words.specs.declared.options.Kind.{Kind}
 use Rattle.command_words.specs.declared.options.Kind.TheVariants as kind
-use Rattle.command_words.specs.Asking.{count, is_brief, EachMayStand, bound_of, workers_of, side_of, unnamed_workers, IsBound, AreWorkers, IsSide, IsBounded, AreOptions, AreOptionsOfLoad, AreWordsOf, Commands}
+use Rattle.command_words.specs.Asking.{count, is_brief, EachMayStand, bound_of, workers_of, side_of, unnamed_workers, IsBound}
+use Rattle.command_words.specs.Asking.{AreWorkers, IsSide, IsBounded, AreOptions, AreOptionsOfLoad, AreWordsOf, Commands}
 
 -- two lists that are one begin with one item
 pub same_head : (words : List (List ℕ)) (x y : List ℕ) (xs ys : List (List ℕ)) → words ≡ x ∷ xs → words ≡ y ∷ ys → x ≡ y
@@ -61,12 +62,14 @@ IsLoadWith rest r = MatchOption r
     (λ c. (side : ℕ) × (events : ℕ) × (crew : ℕ) × (c ≡ command.Load side events crew) × AreOptionsOfLoad rest side events crew)
 
 -- options that name a side are no others
-pub no_load : (words : List (List ℕ)) (m : ℕ) (b : Bool) (i : ℕ) (s : Option ℕ) → s ≡ None → AreOptions kind.Load words m b i s → (side events crew : ℕ) → AreOptionsOfLoad words side events crew → ⊥
+pub no_load : (words : List (List ℕ)) (m : ℕ) (b : Bool) (i : ℕ) (s : Option ℕ) → s ≡ None → AreOptions kind.Load words m b i s → (side events crew : ℕ)
+    → AreOptionsOfLoad words side events crew → ⊥
 no_load words m b i s none o side events crew p =
     let same = one_options kind.Load words m events b false i crew s (Some side) o p in
     let both : None ≡ Some side = sym none ∙ same.3 in cc
 
-pub no_run : (k : Kind) (words : List (List ℕ)) (m : ℕ) (b : Bool) (i : ℕ) (s : Option ℕ) (side : ℕ) → s ≡ Some side → AreOptions k words m b i s → (events : ℕ) (brief : Bool) (crew : ℕ) → AreOptions k words events brief crew None → ⊥
+pub no_run : (k : Kind) (words : List (List ℕ)) (m : ℕ) (b : Bool) (i : ℕ) (s : Option ℕ) (side : ℕ) → s ≡ Some side → AreOptions k words m b i s
+    → (events : ℕ) (brief : Bool) (crew : ℕ) → AreOptions k words events brief crew None → ⊥
 no_run k words m b i s side named o events brief crew p =
     let same = one_options k words m events b brief i crew s None o p in
     let both : Some side ≡ None = sym named ∙ same.3 in cc
@@ -79,12 +82,14 @@ no_briefs (choice.Brief ∷ cs) each = absurd (let no : false ≡ true = each.0.
 no_briefs (choice.Workers n ∷ cs) each = let none = no_briefs cs each.1 in omega (arith, none)
 no_briefs (choice.Side n ∷ cs) each = let none = no_briefs cs each.1 in omega (arith, none)
 
-pub load_with : (words : List (List ℕ)) (m : ℕ) (b : Bool) (i : ℕ) (s : Option ℕ) (side : ℕ) → s ≡ Some side → AreOptions kind.Load words m b i s → AreOptionsOfLoad words side m i
+pub load_with : (words : List (List ℕ)) (m : ℕ) (b : Bool) (i : ℕ) (s : Option ℕ) (side : ℕ) → s ≡ Some side → AreOptions kind.Load words m b i s
+    → AreOptionsOfLoad words side m i
 load_with words m b i s side named o =
     let not_brief : b ≡ false = o.brief_is ∙ ap (nat_lt 0) (no_briefs o.choices o.allowed) in
     subst (λ x. AreOptions kind.Load words m false i x) named (subst (λ x. AreOptions kind.Load words m x i s) not_brief o)
 
-serial_none : (m : Bool) (words rest : List (List ℕ)) → words ≡ codes "serial" ∷ rest → ((events : ℕ) (brief : Bool) (crew : ℕ) → AreOptions kind.Serial rest events brief crew None → ⊥) → (c : Command) → AreWordsOf m words c → ⊥
+serial_none : (m : Bool) (words rest : List (List ℕ)) → words ≡ codes "serial" ∷ rest
+    → ((events : ℕ) (brief : Bool) (crew : ℕ) → AreOptions kind.Serial rest events brief crew None → ⊥) → (c : Command) → AreWordsOf m words c → ⊥
 serial_none m words rest e none command.Check w = serial_check (same_head words _ _ _ _ e w)
 serial_none m words rest e none command.Replay w = serial_replay (same_head words _ _ _ _ e w)
 serial_none m words rest e none (command.Run events brief crew) (inl w) =
@@ -92,11 +97,13 @@ serial_none m words rest e none (command.Run events brief crew) (inl w) =
 serial_none m words rest e none (command.Run events brief crew) (inr w) = serial_run (same_head words _ _ _ _ e w.2)
 serial_none m words rest e none (command.Load side events crew) w = serial_load (same_head words _ _ _ _ e w.2)
 
-pub for_serial : (m : Bool) (words rest : List (List ℕ)) (r : Option Command) → words ≡ codes "serial" ∷ rest → IsRunWith kind.Serial rest r → Commands m words r
+pub for_serial : (m : Bool) (words rest : List (List ℕ)) (r : Option Command) → words ≡ codes "serial" ∷ rest → IsRunWith kind.Serial rest r
+    → Commands m words r
 for_serial m words rest None e none = serial_none m words rest e none
 for_serial m words rest (Some c) e some = subst (AreWordsOf m words) (sym some.3) (inl (rest, e, some.4))
 
-run_none : (m : Bool) (words rest : List (List ℕ)) → words ≡ codes "run" ∷ rest → ((events : ℕ) (brief : Bool) (crew : ℕ) → AreOptions kind.Run rest events brief crew None → ⊥) → (c : Command) → AreWordsOf m words c → ⊥
+run_none : (m : Bool) (words rest : List (List ℕ)) → words ≡ codes "run" ∷ rest
+    → ((events : ℕ) (brief : Bool) (crew : ℕ) → AreOptions kind.Run rest events brief crew None → ⊥) → (c : Command) → AreWordsOf m words c → ⊥
 run_none m words rest e none command.Check w = run_check (same_head words _ _ _ _ e w)
 run_none m words rest e none command.Replay w = run_replay (same_head words _ _ _ _ e w)
 run_none m words rest e none (command.Run events brief crew) (inl w) = serial_run (sym (same_head words _ _ _ _ e w.1))
@@ -104,11 +111,13 @@ run_none m words rest e none (command.Run events brief crew) (inr w) =
     none events brief crew (subst (λ r. AreOptions kind.Run r events brief crew None) (same_rest words _ rest w.0 e w.2) w.3)
 run_none m words rest e none (command.Load side events crew) w = run_load (same_head words _ _ _ _ e w.2)
 
-pub for_run : (m : Bool) (words rest : List (List ℕ)) (r : Option Command) → m ≡ true → words ≡ codes "run" ∷ rest → IsRunWith kind.Run rest r → Commands m words r
+pub for_run : (m : Bool) (words rest : List (List ℕ)) (r : Option Command) → m ≡ true → words ≡ codes "run" ∷ rest → IsRunWith kind.Run rest r
+    → Commands m words r
 for_run m words rest None may e none = run_none m words rest e none
 for_run m words rest (Some c) may e some = subst (AreWordsOf m words) (sym some.3) (inr (rest, may, e, some.4))
 
-load_none : (m : Bool) (words rest : List (List ℕ)) → words ≡ codes "load" ∷ rest → ((side events crew : ℕ) → AreOptionsOfLoad rest side events crew → ⊥) → (c : Command) → AreWordsOf m words c → ⊥
+load_none : (m : Bool) (words rest : List (List ℕ)) → words ≡ codes "load" ∷ rest → ((side events crew : ℕ) → AreOptionsOfLoad rest side events crew → ⊥)
+    → (c : Command) → AreWordsOf m words c → ⊥
 load_none m words rest e none command.Check w = check_load (same_head words _ _ _ _ w e)
 load_none m words rest e none command.Replay w = replay_load (same_head words _ _ _ _ w e)
 load_none m words rest e none (command.Run events brief crew) (inl w) = serial_load (same_head words _ _ _ _ w.1 e)
@@ -151,7 +160,8 @@ side_in_range k (choice.Brief ∷ cs) side each e = side_in_range k cs side each
 side_in_range k (choice.Workers n ∷ cs) side each e = side_in_range k cs side each.1 e
 side_in_range k (choice.Side n ∷ cs) side each e = subst IsSide (sym (same_side side n e)) each.0.1
 
-options_bounded : (k : Kind) (rest : List (List ℕ)) (events : ℕ) (brief : Bool) (crew : ℕ) (side : Option ℕ) → AreOptions k rest events brief crew side → IsBound events × AreWorkers crew
+options_bounded : (k : Kind) (rest : List (List ℕ)) (events : ℕ) (brief : Bool) (crew : ℕ) (side : Option ℕ) → AreOptions k rest events brief crew side
+    → IsBound events × AreWorkers crew
 options_bounded k rest events brief crew side are = (
   subst IsBound (sym are.bound) (in_range k are.choices are.allowed),
   subst AreWorkers (sym are.workers_are) (crew_in_range k (unnamed_workers k) are.choices (unnamed_in_range k) are.allowed),
@@ -168,7 +178,8 @@ bounded m words (command.Load side events crew) w =
 
 -- ---- one command
 
-one_run : (k : Kind) (x y : List (List ℕ)) (m n : ℕ) (b d : Bool) (i j : ℕ) → x ≡ y → AreOptions k x m b i None → AreOptions k y n d j None → command.Run m b i ≡ command.Run n d j
+one_run : (k : Kind) (x y : List (List ℕ)) (m n : ℕ) (b d : Bool) (i j : ℕ) → x ≡ y → AreOptions k x m b i None → AreOptions k y n d j None
+    → command.Run m b i ≡ command.Run n d j
 one_run k x y m n b d i j e p q =
     let same = one_options k y m n b d i j None None (subst (λ r. AreOptions k r m b i None) e p) q in
     ap (λ x. command.Run x b i) same.0 ∙ (ap (λ x. command.Run n x i) same.1 ∙ ap (λ x. command.Run n d x) same.2)
@@ -191,7 +202,8 @@ one_command m words command.Replay (command.Run _ _ _) v (inr w) = absurd (run_r
 one_command m words command.Replay (command.Load _ _ _) v w = absurd (replay_load (same_head words _ _ _ _ v w.2))
 one_command m words (command.Run _ _ _) command.Check (inl v) w = absurd (serial_check (same_head words _ _ _ _ v.1 w))
 one_command m words (command.Run _ _ _) command.Replay (inl v) w = absurd (serial_replay (same_head words _ _ _ _ v.1 w))
-one_command m words (command.Run i b k) (command.Run j d l) (inl v) (inl w) = one_run kind.Serial v.0 w.0 i j b d k l (same_rest words _ w.0 v.0 w.1 v.1) v.2 w.2
+one_command m words (command.Run i b k) (command.Run j d l) (inl v) (inl w) =
+    one_run kind.Serial v.0 w.0 i j b d k l (same_rest words _ w.0 v.0 w.1 v.1) v.2 w.2
 one_command m words (command.Run _ _ _) (command.Run _ _ _) (inl v) (inr w) = absurd (serial_run (same_head words _ _ _ _ v.1 w.2))
 one_command m words (command.Run _ _ _) (command.Load _ _ _) (inl v) w = absurd (serial_load (same_head words _ _ _ _ v.1 w.2))
 one_command m words (command.Run _ _ _) command.Check (inr v) w = absurd (run_check (same_head words _ _ _ _ v.2 w))

@@ -73,7 +73,8 @@ impl Seen {
 
     /// The same with one option more, where none of its kind was there.
     fn with(self, choice: Choice) -> Option<Seen>
-        ensures { (unnamed : ℕ) (cs : List Choice) → IsSeen unnamed cs self → MatchOption result (IsAgain cs choice) (λ seen. IsSeen unnamed (cs ++ choice ∷ []) seen) }
+        ensures { (unnamed : ℕ) (cs : List Choice) → IsSeen unnamed cs self
+            → MatchOption result (IsAgain cs choice) (λ seen. IsSeen unnamed (cs ++ choice ∷ []) seen) }
     {
         match choice {
             Choice::Events(bound) => {

@@ -130,7 +130,15 @@ unused (suc n) = record { number = n; entries = [] } ∷ unused n
 -- the first view of a clock, which has all numbers
 abbrev pub opening_view : Size → View
 opening_view size =
-    record { holders = size.holders; bound = size.bound; own = unused size.holders; known = []; olds = []; tasks = record { task = 0; trace = [] } ∷ []; late = 0 }
+    record {
+      holders = size.holders;
+      bound = size.bound;
+      own = unused size.holders;
+      known = [];
+      olds = [];
+      tasks = record { task = 0; trace = [] } ∷ [];
+      late = 0;
+    }
 
 -- all numbers but the first
 abbrev pub rest_of : List Own → List Own

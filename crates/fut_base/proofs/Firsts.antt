@@ -39,7 +39,8 @@ none_from p k [] = true
 none_from p zero (e ∷ es) = not (p e.action) && none_from p zero es
 none_from p (suc k) (e ∷ es) = none_from p k es
 
-none_at : (p : Action → Bool) (k : ℕ) (xs : List Event) → none_from p k xs ≡ true → (m : ℕ) (x : Event) → k ≤ m → slice_get xs m ≡ Some x → p x.action ≡ true → ⊥
+none_at : (p : Action → Bool) (k : ℕ) (xs : List Event) → none_from p k xs ≡ true → (m : ℕ) (x : Event) → k ≤ m → slice_get xs m ≡ Some x → p x.action ≡ true
+    → ⊥
 none_at p k [] none m x le at passes = none-some x at
 none_at p zero (e ∷ es) none zero x le at passes =
     let fails = not-true (p e.action) (and_parts (not (p e.action)) (none_from p zero es) none).0 in
@@ -56,7 +57,8 @@ at_take (x ∷ xs) (suc n) zero lt = refl
 at_take (x ∷ xs) (suc n) (suc k) lt = at_take xs n k (omega arith)
 
 -- where nothing is written before j, and the cell is not accessed between i and j
-pub first_write : (h : List Event) (c i j : ℕ) → PlacesRace h c i j → none_from writes 0 (take j h) ≡ true → none_from (accesses c) (suc i) (take j h) ≡ true → IsFirstPair h c i j
+pub first_write : (h : List Event) (c i j : ℕ) → PlacesRace h c i j → none_from writes 0 (take j h) ≡ true → none_from (accesses c) (suc i) (take j h) ≡ true
+    → IsFirstPair h c i j
 first_write h c i j race unwritten untouched =
     record {
       race = race;
@@ -65,7 +67,8 @@ first_write h c i j race unwritten untouched =
             let one = other.events.0 in
             let two = other.events.1 in
             absurd (elim other.events.4.write [
-              | inl w ↦ none_at writes 0 (take j h) unwritten m one (omega arith) (at_take h j m (omega (arith, other.order)) ∙ other.events.2) (is_write one.action w)
+              | inl w ↦ none_at writes 0 (take j h) unwritten m one (omega arith) (at_take h j m (omega (arith, other.order)) ∙ other.events.2)
+                  (is_write one.action w)
               | inr w ↦ none_at writes 0 (take j h) unwritten n two (omega arith) (at_take h j n lt ∙ other.events.3) (is_write two.action w)
             ]))
         | inr le ↦ le
@@ -73,7 +76,9 @@ first_write h c i j race unwritten untouched =
       greatest = λ m other. elim (cases_lt i m) [
         | inl lt ↦ (
             let one = other.events.0 in
-            absurd (none_at (accesses c) (suc i) (take j h) untouched m one (omega arith) (at_take h j m other.order ∙ other.events.2) (is_access c one.action other.events.4.one)))
+            absurd
+            (none_at (accesses c) (suc i) (take j h) untouched m one (omega arith) (at_take h j m other.order ∙ other.events.2)
+            (is_access c one.action other.events.4.one)))
         | inr le ↦ le
       ];
     }

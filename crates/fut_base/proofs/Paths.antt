@@ -31,7 +31,8 @@ pub not_reached : (es : List (ℕ × ℕ)) (p : ℕ → Bool) (u v : ℕ) → is
 not_reached es p u v closed at out r = let in_ : p v ≡ true = stays es p closed r.0 u v r.1 at in cc
 
 -- places whose strands are joined do not race
-pub joined_no_race : (h : List Event) (c i j : ℕ) (a b : Event) → slice_get h i ≡ Some a → slice_get h j ≡ Some b → AreJoined h a.strand b.strand → PlacesRace h c i j → ⊥
+pub joined_no_race : (h : List Event) (c i j : ℕ) (a b : Event) → slice_get h i ≡ Some a → slice_get h j ≡ Some b → AreJoined h a.strand b.strand
+    → PlacesRace h c i j → ⊥
 joined_no_race h c i j a b ea eb joined r =
     let sa : a ≡ r.events.0 = cc in
     let sb : b ≡ r.events.1 = cc in

@@ -47,14 +47,16 @@ module _ (h : List Event) where
   from_next b x xs f le =
       record {
         each = All-tail First x xs f.each;
-        whole = λ c i j above race. any_tail (λ (r : Race). r.cell ≡ c) x xs (f.whole c i j (omega (arith, above, le)) race) (λ same. omega (arith, same, above));
+        whole = λ c i j above race. any_tail (λ (r : Race). r.cell ≡ c) x xs (f.whole c i j (omega (arith, above, le)) race)
+            (λ same. omega (arith, same, above));
         order = f.order.1;
       }
 
   -- a cell that has a race is not below the first of them
   not_below : (b : ℕ) (x r : Race) (xs : List Race) → AreFrom b (x ∷ xs) → b ≤ r.cell → First r → x.cell ≤ r.cell
   not_below b x r xs f le first =
-      let above = All-cons (λ (s : Race). x.cell ≤ s.cell) x xs (omega arith) (All-weaker (λ (s : Race). x.cell < s.cell) (λ (s : Race). x.cell ≤ s.cell) (λ s lt. omega (arith, lt)) xs f.order.0) in
+      let above = All-cons (λ (s : Race). x.cell ≤ s.cell) x xs (omega arith)
+      (All-weaker (λ (s : Race). x.cell < s.cell) (λ (s : Race). x.cell ≤ s.cell) (λ s lt. omega (arith, lt)) xs f.order.0) in
       let found = any_of_all (λ (s : Race). s.cell ≡ r.cell) (λ (s : Race). x.cell ≤ s.cell) (x ∷ xs) (f.whole r.cell r.first r.second le first.race) above in
       let same = found.1 in
       let least = found.2 in
@@ -83,7 +85,8 @@ module _ (h : List Event) where
       let cells : x.cell ≡ y.cell = omega (arith, up, down) in
       let next : ℕ = x.cell + 1 in
       let later : AreFrom next ys = subst (λ n. AreFrom n ys) (ap (λ n. n + 1) (sym cells)) (from_next b y ys g at_y) in
-      let above : All (λ (s : Race). next ≤ s.cell) ys = subst (λ n. All (λ (s : Race). n ≤ s.cell) ys) (ap (λ n. n + 1) (sym cells)) (from_all b y ys g.order) in
+      let above : All (λ (s : Race). next ≤ s.cell) ys =
+      subst (λ n. All (λ (s : Race). n ≤ s.cell) ys) (ap (λ n. n + 1) (sym cells)) (from_all b y ys g.order) in
       ap (λ r. r ∷ xs) (one_pair x y cells one other) ∙ ap (λ l. y ∷ l) (same_from next xs ys (from_all b x xs f.order) above (from_next b x xs f at_x) later)
 
   from_zero : (xs : List Race) → IsReport h xs → AreFrom 0 xs
@@ -91,5 +94,6 @@ module _ (h : List Event) where
 
   pub one_report : (xs ys : List Race) → IsReport h xs → IsReport h ys → xs ≡ ys
   one_report xs ys x y =
-      let low : (zs : List Race) → IsReport h zs → All (λ (s : Race). 0 ≤ s.cell) zs = λ zs z. All-weaker First (λ (s : Race). 0 ≤ s.cell) (λ s first. omega arith) zs z.each in
+      let low : (zs : List Race) → IsReport h zs → All (λ (s : Race). 0 ≤ s.cell) zs =
+      λ zs z. All-weaker First (λ (s : Race). 0 ≤ s.cell) (λ s first. omega arith) zs z.each in
       same_from 0 xs ys (low xs x) (low ys y) (from_zero xs x) (from_zero ys y)

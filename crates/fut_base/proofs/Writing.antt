@@ -24,7 +24,8 @@ appends_both (Some ks) (Some bs) None xs ys h k = absurd k
 appends_both (Some ks) (Some bs) (Some cs) xs ys h k = k ∙ ap (λ (l : List ℕ). l ++ ys) h ∙ append_assoc ks xs ys
 
 -- a text after what was written
-pub writes_after : (a b c : Option (List ℕ)) (f g h : ℕ) (xs ys : List ℕ) (r : Wrote) → Appends a b xs → g ≡ f → Writes b c g h ys r → Writes a c f h (xs ++ ys) r
+pub writes_after : (a b c : Option (List ℕ)) (f g h : ℕ) (xs ys : List ℕ) (r : Wrote) → Appends a b xs → g ≡ f → Writes b c g h ys r
+    → Writes a c f h (xs ++ ys) r
 writes_after a b c f g h xs ys All one same two = (appends_both a b c xs ys one two.0, omega (arith, two.1))
 writes_after a b c f g h xs ys Failed one same two =
     let part = two.0.0 in
@@ -46,6 +47,7 @@ pub goes_on : (all done here after left : List ℕ) → all ≡ done ++ left →
 goes_on all done here after left is next = is ∙ (ap (λ l. done ++ l) next ∙ sym (append_assoc done here after))
 
 -- a text of which some parts were written, and then a beginning of the next
-pub stopped_in : (a b c : Option (List ℕ)) (f g h : ℕ) (all done here after : List ℕ) → all ≡ (done ++ here) ++ after → Appends a b done → g ≡ f → Writes b c g h here Failed → Writes a c f h all Failed
+pub stopped_in : (a b c : Option (List ℕ)) (f g h : ℕ) (all done here after : List ℕ) → all ≡ (done ++ here) ++ after → Appends a b done → g ≡ f
+    → Writes b c g h here Failed → Writes a c f h all Failed
 stopped_in a b c f g h all done here after is one same two =
     subst (λ text. Writes a c f h text Failed) (sym is) (stopped_early a c f h (done ++ here) after (writes_after a b c f g h done here Failed one same two))

@@ -1,7 +1,7 @@
 //! A source and a sink in memory, which tell their bytes and fail at chosen calls.
 ghost use Rattle.std.specs.Prelude.{◌≡◌, ◌∷◌, [], IfOk, Some, false, ◌+◌, ◌<◌, ◌≤◌, length};
 ghost use Rattle.fut_base.specs.Ports.{Puts, Takes};
-ghost use Rattle.fut_base.specs.Memory.{Given, Room, TakesOf, PutsOf, after_take, after_put};
+ghost use Rattle.fut_base.specs.Memory.{SourceNow, SinkNow, TakesOf, PutsOf, after_take, after_put};
 
 use crate::list::NoMemory;
 use crate::ports::{Put, Sink, Source, Took};
@@ -22,9 +22,9 @@ pub struct MemSource {
 
 impl Model for MemSource {
     ghost use Rattle.std.specs.Prelude.{◌<◌, ◌≤◌, drop, vec_len};
-    ghost use Rattle.fut_base.specs.Memory.{Given};
+    ghost use Rattle.fut_base.specs.Memory.{SourceNow};
 
-    ghost Value = { Given };
+    ghost Value = { SourceNow };
 
     ghost view = { λ s. record { left = drop s.at s.bytes.items; most = s.most; calls = s.calls; fails = s.fails.items; faults = s.faults; ended = s.ended } };
 
@@ -103,9 +103,9 @@ pub struct MemSink {
 
 impl Model for MemSink {
     ghost use Rattle.std.specs.Prelude.{◌<◌, ◌≤◌, ◌+◌, vec_len, vec_capacity};
-    ghost use Rattle.fut_base.specs.Memory.{Room};
+    ghost use Rattle.fut_base.specs.Memory.{SinkNow};
 
-    ghost Value = { Room };
+    ghost Value = { SinkNow };
 
     ghost view = { λ s. record { bytes = s.bytes.items; room = s.room; most = s.most; calls = s.calls; fails = s.fails.items; faults = s.faults } };
 

@@ -31,7 +31,9 @@ if_passed g s s1 s2 a a1 a2 a3 a4 e b o test body close tail =
       walked = walked_as (walked_both (walked_both test body.walked) (past_walked close tail.walked)) (omega arith)
           (ap (λ n. needed_faults s.visible (a.at + 1) for_int e ++ block_faults g s n b ++ tail_faults g s1 a3.at o) first
           ∙ ap (λ n. needed_faults s.visible (a.at + 1) for_int e ++ block_faults g s (a.at + 1 + expr_width e + 1) b ++ tail_faults g s1 n o) second
-          ∙ ap (λ x. needed_faults s.visible (a.at + 1) for_int e ++ block_faults g s (a.at + 1 + expr_width e + 1) b ++ tail_faults g x (a.at + 1 + expr_width e + 1 + block_width b + 1) o) body.scope_is);
+          ∙ ap
+          (λ x. needed_faults s.visible (a.at + 1) for_int e ++ block_faults g s (a.at + 1 + expr_width e + 1) b
+          ++ tail_faults g x (a.at + 1 + expr_width e + 1 + block_width b + 1) o) body.scope_is);
       scope_is = tail.scope_is ∙ ap (λ x. with_declared x (declared_in_tail o)) body.scope_is ∙ declared_twice s (declared_in_block b) (declared_in_tail o);
     }
 

@@ -8,10 +8,16 @@ use Rattle.fut_tokens.specs.declared.token.Token.{Token}
 use Rattle.fut_tokens.specs.declared.token.Token.TheVariants as t
 use Rattle.fut_tokens.specs.declared.kind.Mark.{Mark}
 use Rattle.fut_tokens.specs.declared.kind.Mark.TheVariants.{Alone as Lone, Paired}
-use Rattle.fut_tokens.specs.Cut.{Class, Letter, Digit, Blank, Other, Piece, Space, Comment, Lexeme, IsCut, each, is_word, is_digit, look_up, keywords, symbols, keyword_of, mark_of, class_of, is_letter, is_blank, plain_word, word_or, word_token, value_from, has_leading_zero, in_range, number_token, token_by, token_of}
+use Rattle.fut_tokens.specs.Cut.{Class, Letter, Digit, Blank, Other, Piece, Space, Comment, Lexeme, IsCut, each, is_word, is_digit}
+use Rattle.fut_tokens.specs.Cut.{look_up, keywords, symbols, keyword_of, mark_of, class_of, is_letter, is_blank, plain_word}
+use Rattle.fut_tokens.specs.Cut.{word_or, word_token, value_from, has_leading_zero, in_range, number_token, token_by, token_of}
 use Rattle.fut_tokens.specs.Lexed.{tokens_of}
-use Rattle.fut_syntax.specs.Trees.{Sign, NoSign, Negative, Inverted, Expr, Alone, Pair, Operand, Signed, Primary, Literal, Name, Bracket, Init, GetOf, CreateOf, Index, Value, VarType, Plain, Array, Stmt, Declare, Define, Assign, Store, SpawnOf, SyncAll, If', While', Return', Block, Done, Then, Tail, NoElse, ElseOf, Param, Item, CellsOf, TaskOf, Program}
-use Rattle.fut_syntax.specs.Tokens.{op_token, sign_before, expr_before, operand_before, primary_before, more_before, args_before, init_before, type_before, var_type_before, stmt_before, block_before, tail_before, param_before, more_params_before, params_before, items_before, program_tokens}
+use Rattle.fut_syntax.specs.Trees.{Sign, NoSign, Negative, Inverted, Expr, Alone, Pair, Operand, Signed, Primary, Literal, Name, Bracket, Init}
+use Rattle.fut_syntax.specs.Trees.{GetOf, CreateOf, Index, Value, VarType, Plain, Array, Stmt, Declare, Define, Assign, Store, SpawnOf, SyncAll}
+use Rattle.fut_syntax.specs.Trees.{If', While', Return', Block, Done, Then, Tail, NoElse, ElseOf, Param, Item, CellsOf, TaskOf, Program}
+use Rattle.fut_syntax.specs.Tokens.{op_token, sign_before, expr_before, operand_before, primary_before, more_before}
+use Rattle.fut_syntax.specs.Tokens.{args_before, init_before, type_before, var_type_before, stmt_before, block_before}
+use Rattle.fut_syntax.specs.Tokens.{tail_before, param_before, more_params_before, params_before, items_before, program_tokens}
 use Rattle.fut_check.specs.Numbers.{expr_fits, operand_fits, primary_fits, each_fits, init_fits, stmt_fits, block_fits, tail_fits, items_fit, numbers_fit}
 
 abbrev pub is_in_range : Token → Bool
@@ -43,7 +49,8 @@ IsGood x = is_in_range x ≡ true
 
 keyword_good : (w : List ℕ) (x : Token) → keyword_of w ≡ Some x → IsGood x
 unfolding keyword_of
-keyword_good w x e = found_in IsGood (bytes_eq w) keywords x (refl, (refl, (refl, (refl, (refl, (refl, (refl, (refl, (refl, (refl, (refl, (refl, (refl, (refl, tt)))))))))))))) e
+keyword_good w x e = found_in IsGood (bytes_eq w) keywords x
+    (refl, (refl, (refl, (refl, (refl, (refl, (refl, (refl, (refl, (refl, (refl, (refl, (refl, (refl, tt)))))))))))))) e
 
 abbrev IsGoodMark : Mark → Type 0
 IsGoodMark (Lone x) = IsGood x
@@ -52,7 +59,28 @@ IsGoodMark (Paired x y) = IsGood x × IsGood y
 mark_good : (b : ℕ) (m : Mark) → mark_of b ≡ Some m → IsGoodMark m
 unfolding mark_of
 mark_good b m e =
-    found_in IsGoodMark (nat_eq b) symbols m (refl, (refl, (refl, (refl, (refl, (refl, (refl, (refl, (refl, ((refl, refl), (refl, (refl, (refl, (refl, (refl, (refl, (refl, ((refl, refl), ((refl, refl), ((refl, refl), tt)))))))))))))))))))) e
+    found_in IsGoodMark (nat_eq b) symbols m (
+      refl,
+      (
+        refl,
+        (
+          refl,
+          (
+            refl,
+            (
+              refl,
+              (
+                refl,
+                (
+                  refl,
+                  (refl, (refl, ((refl, refl), (refl, (refl, (refl, (refl, (refl, (refl, (refl, ((refl, refl), ((refl, refl), ((refl, refl), tt))))))))))))),
+                ),
+              ),
+            ),
+          ),
+        ),
+      ),
+    ) e
 
 plain_good : (w : List ℕ) → IsGood (plain_word w)
 plain_good w = by_bool (λ b. IsGood (if b then t.Word w else t.Scrap)) (nat_le _ 32) (λ t. refl) (λ f. refl)
@@ -70,7 +98,8 @@ number_good ds =
     (λ f. ranged (value_from 0 ds))
   where
     ranged : (n : ℕ) → IsGood (in_range n)
-    ranged n = by_bool (λ b. nat_le n 9223372036854775807 ≡ b → IsGood (if b then t.Number n else t.Scrap)) (nat_le n 9223372036854775807) (λ t e. e) (λ f e. refl) refl
+    ranged n = by_bool (λ b. nat_le n 9223372036854775807 ≡ b → IsGood (if b then t.Number n else t.Scrap)) (nat_le n 9223372036854775807) (λ t e. e)
+        (λ f e. refl) refl
 
 abbrev IsGoodClass : Class → Type 0
 IsGoodClass (Other (Some m)) = IsGoodMark m
@@ -170,7 +199,8 @@ var_type_behind (Array d n) r h = let a = type_behind d (t.LeftSquare ∷ t.Numb
 mutual
   fit_stmt : (s : Stmt) (r : List Token) → AreInRange (stmt_before s r) → Fits (stmt_fits s) r
   fit_stmt (Declare w v) r h = (refl, (var_type_behind v (t.Semicolon ∷ r) h.1.1.1).1)
-  fit_stmt (Define w v i) r h = (let a = fit_init i (t.Semicolon ∷ r) (var_type_behind v (t.Equals ∷ init_before i (t.Semicolon ∷ r)) h.1.1.1).1 in (a.0, a.1.1))
+  fit_stmt (Define w v i) r h =
+      (let a = fit_init i (t.Semicolon ∷ r) (var_type_behind v (t.Equals ∷ init_before i (t.Semicolon ∷ r)) h.1.1.1).1 in (a.0, a.1.1))
   fit_stmt (Assign w i) r h = (let a = fit_init i (t.Semicolon ∷ r) h.1.1 in (a.0, a.1.1))
   fit_stmt (Store w e f) r h =
       let a = fit_expr e (t.RightSquare ∷ t.Equals ∷ expr_before f (t.Semicolon ∷ r)) h.1.1 in

@@ -2,7 +2,7 @@
 use Rattle.std.proofs.Common.{◌≡◌, ℕ, ◌+◌, ◌*◌, ◌≤◌, List, refl, sym, ap, ◌∙◌, subst, arith}
 use Rattle.std.specs.Prelude.{nat_eq, if◌then◌else◌, slice_get, IsSomeAnd}
 use Rattle.std.proofs.lemmas.Option.{same_Some}
-use Rattle.fut_tokens.specs.declared.token.Place.{Place}
+use Rattle.fut_tokens.specs.declared.token.Position.{Position}
 use Rattle.fut_syntax.specs.declared.tree.Program as declared
 use Rattle.fut_syntax.specs.Trees.{Program}
 use Rattle.fut_rules.specs.declared.fault.Rule.{Rule}
@@ -55,7 +55,7 @@ one_first fs f g a b =
     let make : ℕ → Rule → Fault = λ n r. record { token = n; rule = r } in
     ap (λ n. make n f.rule) token ∙ ap (λ r. make g.token r) same
 
-pub one_fault : (p : declared.Program) (n m : ℕ) (a b : Place) → IsFaultOf p n a → IsFaultOf p m b → (n ≡ m) × (a ≡ b)
+pub one_fault : (p : declared.Program) (n m : ℕ) (a b : Position) → IsFaultOf p n a → IsFaultOf p m b → (n ≡ m) × (a ≡ b)
 one_fault p n m a b x y =
     let tree = same_Some x.tree y.tree (sym x.is ∙ y.is) in
     let first : IsFirst x.fault (faults_of y.tree) = subst (λ (t : Program). IsFirst x.fault (faults_of t)) tree x.first in
@@ -64,7 +64,7 @@ one_fault p n m a b x y =
       same_Some a b (sym x.stands ∙ ap (λ (f : Fault). slice_get p.places f.token) same ∙ y.stands),
     )
 
-pub no_fault : (p : declared.Program) (n : ℕ) (a : Place) → IsChecked p → IsFaultOf p n a → ⊥
+pub no_fault : (p : declared.Program) (n : ℕ) (a : Position) → IsChecked p → IsFaultOf p n a → ⊥
 no_fault p n a h x =
     let clean : IsWellTyped x.tree = subst (λ o. IsSomeAnd o IsWellTyped) x.is h in
     subst (λ fs. IsAmong x.fault fs) clean x.first.among

@@ -21,19 +21,25 @@ assign_faults g s n w i vs m need a b c = rw (a, b, c) refl
 
 pub define_faults : (g : List Item) (s : Scope) (n : ℕ) (w : List ℕ) (v : VarType) (i : Init) (kind : Kind) (vs : List Variable) (m1 m2 m3 : ℕ) (need : Need)
     → kind ≡ kind_of v → vs ≡ s.visible → m1 ≡ n + 1 → m2 ≡ n + 3 → m3 ≡ n + 3 + type_width v + 1 → need ≡ init_need kind
-    → declared_faults g s.declared m1 (record { name = w; kind = kind }) ++ type_faults m2 v ++ init_faults g vs m3 (Some need) i ≡ stmt_faults g s n (Define w v i)
+    → declared_faults g s.declared m1 (record { name = w; kind = kind }) ++ type_faults m2 v ++ init_faults g vs m3 (Some need) i
+    ≡ stmt_faults g s n (Define w v i)
 define_faults g s n w v i kind vs m1 m2 m3 need k a b c d e = rw (e, k, a, b, c, d) refl
 
 pub store_faults : (g : List Item) (s : Scope) (n : ℕ) (w : List ℕ) (e f : Expr) (ts vs us : List Variable) (m1 m2 : ℕ) (need : Option Need)
-    → ts ≡ s.visible → vs ≡ s.visible → us ≡ s.visible → m1 ≡ n + 2 → m2 ≡ n + 2 + expr_width e + 2 → need ≡ value_need (element (kind_named s.visible w) (means_cells (declaration g w)))
-    → broken (element_rule (kind_named ts w) (means_cells (declaration g w))) n ++ needed_faults vs m1 for_int e ++ needed_faults us m2 need f ≡ stmt_faults g s n (Store w e f)
+    → ts ≡ s.visible → vs ≡ s.visible → us ≡ s.visible → m1 ≡ n + 2 → m2 ≡ n + 2 + expr_width e + 2
+    → need ≡ value_need (element (kind_named s.visible w) (means_cells (declaration g w)))
+    → broken (element_rule (kind_named ts w) (means_cells (declaration g w))) n ++ needed_faults vs m1 for_int e ++ needed_faults us m2 need f
+    ≡ stmt_faults g s n (Store w e f)
 store_faults g s n w e f ts vs us m1 m2 need t a b c d h = rw (t, a, b, c, d, h) refl
 
-pub param_faults_are : (g : List Item) (before : List Variable) (n m : ℕ) (p : Param) (w : List ℕ) (kind : Kind) → w ≡ p.name → kind ≡ kind_of p.type → m ≡ n + 2
-    → declared_faults g before n (record { name = w; kind = kind }) ++ fault_if (is_over before kind) n rule.ConstantLimit ++ type_faults m p.type ≡ param_faults g before n p
+pub param_faults_are : (g : List Item) (before : List Variable) (n m : ℕ) (p : Param) (w : List ℕ) (kind : Kind) → w ≡ p.name → kind ≡ kind_of p.type
+    → m ≡ n + 2
+    → declared_faults g before n (record { name = w; kind = kind }) ++ fault_if (is_over before kind) n rule.ConstantLimit ++ type_faults m p.type
+    ≡ param_faults g before n p
 param_faults_are g before n m p w kind name k a = rw (name, k, a) refl
 
-pub body_faults_are : (g : List Item) (s : Scope) (n m d : ℕ) (b : Block) (lacks : Bool) → d ≡ s.returns → lacks ≡ (nat_lt 0 d && not (ends_with_return b)) → m ≡ n + block_width b
+pub body_faults_are : (g : List Item) (s : Scope) (n m d : ℕ) (b : Block) (lacks : Bool) → d ≡ s.returns → lacks ≡ (nat_lt 0 d && not (ends_with_return b))
+    → m ≡ n + block_width b
     → block_faults g s n b ++ fault_if lacks m rule.ResultType ≡ body_faults g s n b
 body_faults_are g s n m d b lacks e l a = rw (l, e, a) refl
 
@@ -44,5 +50,6 @@ pub head_faults_are : (g before : List Item) (n : ℕ) (w : List ℕ) (ps : List
 head_faults_are g before n w ps d count m1 m2 m3 m4 main declared t h v a b c e = rw (t, h, v, a, b, c, e) refl
 
 pub task_faults_are : (g before : List Item) (n : ℕ) (w : List ℕ) (ps : List Param) (d : ℕ) (b : Block) (m : ℕ) (s : Scope)
-    → m ≡ n + 3 + params_width ps + d + 2 → s ≡ opening_scope d ps → head_faults g before n w ps d ++ body_faults g s m b ≡ item_faults g before n (TaskOf w ps d b)
+    → m ≡ n + 3 + params_width ps + d + 2 → s ≡ opening_scope d ps → head_faults g before n w ps d ++ body_faults g s m b
+    ≡ item_faults g before n (TaskOf w ps d b)
 task_faults_are g before n w ps d b m s a e = rw (a, e) refl

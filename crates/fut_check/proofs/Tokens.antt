@@ -1,10 +1,15 @@
 -- The widths of trees are the numbers of their tokens.
 use Rattle.std.proofs.Common.{◌≡◌, ℕ, zero, suc, ◌+◌, List, [], ◌∷◌, length, arith}
 use Rattle.fut_tokens.specs.declared.token.Token.{Token}
-use Rattle.fut_syntax.specs.Trees.{Sign, NoSign, Negative, Inverted, Expr, Alone, Pair, Operand, Signed, Primary, Literal, Name, Bracket, Init, GetOf, CreateOf, Index, Value, VarType, Plain, Array, Stmt, Declare, Define, Assign, Store, SpawnOf, SyncAll, If', While', Return', Block, Done, Then, Tail, NoElse, ElseOf, Param, Item, CellsOf, TaskOf, Program}
-use Rattle.fut_syntax.specs.Tokens.{op_token, sign_before, expr_before, operand_before, primary_before, more_before, args_before, init_before, type_before, var_type_before, stmt_before, block_before, tail_before, param_before, more_params_before, params_before, item_before, items_before, program_before}
+use Rattle.fut_syntax.specs.Trees.{Sign, NoSign, Negative, Inverted, Expr, Alone, Pair, Operand, Signed, Primary, Literal, Name, Bracket, Init}
+use Rattle.fut_syntax.specs.Trees.{GetOf, CreateOf, Index, Value, VarType, Plain, Array, Stmt, Declare, Define, Assign, Store, SpawnOf, SyncAll}
+use Rattle.fut_syntax.specs.Trees.{If', While', Return', Block, Done, Then, Tail, NoElse, ElseOf, Param, Item, CellsOf, TaskOf, Program}
+use Rattle.fut_syntax.specs.Tokens.{op_token, sign_before, expr_before, operand_before, primary_before, more_before, args_before}
+use Rattle.fut_syntax.specs.Tokens.{init_before, type_before, var_type_before, stmt_before, block_before, tail_before, param_before}
+use Rattle.fut_syntax.specs.Tokens.{more_params_before, params_before, item_before, items_before, program_before}
 use Rattle.fut_tokens.specs.declared.token.Token.TheVariants as t
-use Rattle.fut_rules.specs.Widths.{sign_width, expr_width, operand_width, primary_width, each_width, args_width, init_width, type_width, stmt_width, block_width, tail_width, each_param_width, params_width, item_width, items_width}
+use Rattle.fut_rules.specs.Widths.{sign_width, expr_width, operand_width, primary_width, each_width, args_width, init_width, type_width}
+use Rattle.fut_rules.specs.Widths.{stmt_width, block_width, tail_width, each_param_width, params_width, item_width, items_width}
 use Rattle.fut_check.specs.Items.{items_of}
 
 sign_tokens : (s : Sign) (r : List Token) → length (sign_before s r) ≡ sign_width s + length r
@@ -77,7 +82,8 @@ params_tokens (p ∷ ps) r = more_params_tokens p ps r
 
 item_tokens : (i : Item) (r : List Token) → length (item_before i r) ≡ item_width i + length r
 item_tokens (CellsOf w n) r = omega arith
-item_tokens (TaskOf w ps d b) r = omega (arith, params_tokens ps (type_before d (t.LeftBrace ∷ block_before b r)), type_tokens d (t.LeftBrace ∷ block_before b r), block_tokens b r)
+item_tokens (TaskOf w ps d b) r =
+    omega (arith, params_tokens ps (type_before d (t.LeftBrace ∷ block_before b r)), type_tokens d (t.LeftBrace ∷ block_before b r), block_tokens b r)
 
 items_tokens : (is : List Item) (r : List Token) → length (items_before is r) ≡ items_width is + 1 + length r
 items_tokens [] r = omega arith

@@ -1,7 +1,7 @@
 -- A whole program's faults.
 use Rattle.std.proofs.Common.{◌≡◌, ℕ, ◌<◌, List, [], ◌∷◌, length, Option, Some, None, sym, ap, ◌∙◌, subst, arith}
 use Rattle.std.specs.Prelude.{slice_get, IsSomeAnd}
-use Rattle.fut_tokens.specs.declared.token.Place.{Place}
+use Rattle.fut_tokens.specs.declared.token.Position.{Position}
 use Rattle.fut_syntax.specs.declared.tree.Item as code
 use Rattle.fut_syntax.specs.declared.tree.Program as declared
 use Rattle.fut_syntax.specs.Trees.{Program}
@@ -24,7 +24,8 @@ pub items_fit : (p : declared.Program) (h : HasPlaces p) (xs : List code.Item) �
 items_fit p h xs e = omega (arith, ap (λ is. items_width (items_tree is)) e, ap items_width (tree_items p.items h.tree h.is), h.places, program_width h.tree)
 
 -- what was found in a whole program
-pub found_in : (p : declared.Program) (h : HasPlaces p) (xs : List code.Item) (start last : Searched) (end : ℕ) → xs ≡ p.items → start ≡ record { at = 0; end = end; found = None }
+pub found_in : (p : declared.Program) (h : HasPlaces p) (xs : List code.Item) (start last : Searched) (end : ℕ) → xs ≡ p.items
+    → start ≡ record { at = 0; end = end; found = None }
     → Walked start last (items_width (items_tree xs)) (items_faults (items_tree xs) [] start.at (items_tree xs)) → last.found ≡ least None (faults_of h.tree)
 found_in p h xs start last end e s w =
     w.found ∙ ap (λ (q : Searched). least q.found (items_faults (items_tree xs) [] q.at (items_tree xs))) s
@@ -33,7 +34,8 @@ found_in p h xs start last end e s w =
 pub is_checked : (p : declared.Program) (h : HasPlaces p) (found : Option Fault) → found ≡ least None (faults_of h.tree) → found ≡ None → IsChecked p
 is_checked p h found f e = subst (λ (o : Option Program). IsSomeAnd o IsWellTyped) (sym h.is) (none_found (faults_of h.tree) (sym f ∙ e))
 
-pub fault_of : (p : declared.Program) (h : HasPlaces p) (found : Option Fault) (f : Fault) (number : ℕ) (place : Place) → found ≡ least None (faults_of h.tree) → found ≡ Some f
+pub fault_of : (p : declared.Program) (h : HasPlaces p) (found : Option Fault) (f : Fault) (number : ℕ) (place : Position)
+    → found ≡ least None (faults_of h.tree) → found ≡ Some f
     → number ≡ rule_number f.rule → slice_get p.places f.token ≡ Some place → IsFaultOf p number place
 fault_of p h found f number place l e r s =
     record { tree = h.tree; is = h.is; fault = f; first = first_found f (faults_of h.tree) (sym l ∙ e); rule = r; stands = s }

@@ -1,6 +1,6 @@
 -- What the check of a program answers.
 use Rattle.std.specs.Prelude.{◌≡◌, ℕ, ◌<◌, ◌^◌, Bool, true, length, slice_get, Option, Some, None, IsSomeAnd}
-use Rattle.fut_tokens.specs.declared.token.Place.{Place}
+use Rattle.fut_tokens.specs.declared.token.Position.{Position}
 use Rattle.fut_syntax.specs.declared.tree.Program as declared
 use Rattle.fut_syntax.specs.Trees as trees
 use Rattle.fut_syntax.specs.Tokens.{program_tokens}
@@ -33,7 +33,7 @@ abbrev pub IsChecked : declared.Program → Type 0
 IsChecked p = IsSomeAnd (program_tree p.items) IsWellTyped
 
 -- the first fault of the tree breaks the rule of this number, and its token stands here
-pub record IsFaultOf (p : declared.Program) (number : ℕ) (place : Place) : Type 0 where
+pub record IsFaultOf (p : declared.Program) (number : ℕ) (place : Position) : Type 0 where
   pub tree : trees.Program
   pub is : program_tree p.items ≡ Some tree
   pub fault : Fault

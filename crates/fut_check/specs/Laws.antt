@@ -1,6 +1,6 @@
 -- Laws of the check.
 use Rattle.std.specs.Prelude.{◌≡◌, ℕ, ◌+◌, ◌<◌, ◌^◌, List, length, Ok}
-use Rattle.fut_tokens.specs.declared.token.Place.{Place}
+use Rattle.fut_tokens.specs.declared.token.Position.{Position}
 use Rattle.fut_syntax.specs.declared.tree.Program as declared
 use Rattle.fut_syntax.specs.Texts.{Parses}
 use Rattle.fut_check.specs.Checks.{HasPlaces, IsChecked, IsFaultOf}
@@ -17,8 +17,8 @@ OneFirst = (fs : List Fault) (f g : Fault) → IsFirst f fs → IsFirst g fs →
 
 -- a program has one first fault at most
 abbrev pub OneFault : Type 0
-OneFault = (p : declared.Program) (n m : ℕ) (a b : Place) → IsFaultOf p n a → IsFaultOf p m b → (n ≡ m) × (a ≡ b)
+OneFault = (p : declared.Program) (n m : ℕ) (a b : Position) → IsFaultOf p n a → IsFaultOf p m b → (n ≡ m) × (a ≡ b)
 
 -- a well-typed program has no fault
 abbrev pub NoFault : Type 0
-NoFault = (p : declared.Program) (n : ℕ) (a : Place) → IsChecked p → IsFaultOf p n a → ⊥
+NoFault = (p : declared.Program) (n : ℕ) (a : Position) → IsChecked p → IsFaultOf p n a → ⊥

@@ -1,6 +1,8 @@
 -- Whether the numbers of a program have 63 bits, as those of each text have.
 use Rattle.std.specs.Prelude.{Bool, true, ◌&&◌, nat_le, List, [], ◌∷◌}
-use Rattle.fut_syntax.specs.Trees.{Expr, Alone, Pair, Operand, Signed, Primary, Literal, Name, Bracket, Init, GetOf, CreateOf, Index, Value, Stmt, Declare, Define, Assign, Store, SpawnOf, SyncAll, If', While', Return', Block, Done, Then, Tail, NoElse, ElseOf, Item, CellsOf, TaskOf, Program}
+use Rattle.fut_syntax.specs.Trees.{Expr, Alone, Pair, Operand, Signed, Primary, Literal, Name, Bracket, Init, GetOf}
+use Rattle.fut_syntax.specs.Trees.{CreateOf, Index, Value, Stmt, Declare, Define, Assign, Store, SpawnOf, SyncAll, If'}
+use Rattle.fut_syntax.specs.Trees.{While', Return', Block, Done, Then, Tail, NoElse, ElseOf, Item, CellsOf, TaskOf, Program}
 use Rattle.fut_check.specs.Items.{items_of}
 
 -- the numbers of an expression fit

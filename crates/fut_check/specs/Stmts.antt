@@ -1,6 +1,7 @@
 -- Declarations and statements.
 use Rattle.std.specs.Prelude.{ℕ, ◌+◌, Bool, true, false, ◌||◌, nat_eq, nat_lt, List, [], ◌∷◌, ◌++◌, Option, Some, None}
-use Rattle.fut_syntax.specs.Trees.{VarType, Plain, Array, Item, Stmt, Declare, Define, Assign, Store, SpawnOf, SyncAll, If', While', Return', Block, Done, Then, Tail, NoElse, ElseOf}
+use Rattle.fut_syntax.specs.Trees.{VarType, Plain, Array, Item, Stmt, Declare, Define, Assign, Store, SpawnOf}
+use Rattle.fut_syntax.specs.Trees.{SyncAll, If', While', Return', Block, Done, Then, Tail, NoElse, ElseOf}
 use Rattle.fut_rules.specs.declared.kind.Kind.{Kind}
 use Rattle.fut_rules.specs.declared.kind.Kind.TheVariants as kind
 use Rattle.fut_rules.specs.declared.kind.Need.{Need}

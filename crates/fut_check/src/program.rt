@@ -7,7 +7,7 @@ use crate::items::walk_items;
 use fut_base::list::NoMemory;
 use fut_rules::search::Search;
 use fut_syntax::tree::Program;
-use fut_tokens::token::Place;
+use fut_tokens::token::Position;
 use std::alloc::Global;
 
 /// Why a program was not checked.
@@ -35,7 +35,7 @@ pub fn check(alloc: Global, program: &Program) -> Result<Checked<'_>, CheckFault
     match search.found() {
         None => Ok(Checked::new(program)),
         Some(fault) => {
-            let Place { line, column } = places[fault.token];
+            let Position { line, column } = places[fault.token];
             Err(CheckFault::IllTyped {
                 rule: fault.rule.number(),
                 line,

@@ -56,11 +56,13 @@ record IsReadDue (a : Asked) (s : Status) (h : List Event) (text : List ℕ) : T
 abbrev Cause : Asked → Status → List Event → List ℕ → Type 0
 Cause a s h text = IsUsageDue a s h text ⊎ (IsFaultDue a s h text ⊎ (IsLongDue a s h text ⊎ IsReadDue a s h text))
 
-of_read : (a : Asked) (c : Command) (bytes : List ℕ) (s : Status) (h : List Event) (text : List ℕ) → Asks a c → IsInput a c bytes → Comes c bytes s h text → Cause a s h text
+of_read : (a : Asked) (c : Command) (bytes : List ℕ) (s : Status) (h : List Event) (text : List ℕ) → Asks a c → IsInput a c bytes → Comes c bytes s h text
+    → Cause a s h text
 of_read a c bytes s h text words read comes = inr (inr (inr (record { command = c; words = words; bytes = bytes; read = read; comes = comes })))
 
 -- this comes of a record that is accepted
-good_comes : (bytes : List ℕ) (P : tree.Program) (h : List Event) (races : List Race) (end : Finish) (s : Status) (text : List ℕ) → IsGoodRecord bytes P h races end → Says s end races → text ≡ legal_text (length h) (length races) → Comes command.Replay bytes s h text
+good_comes : (bytes : List ℕ) (P : tree.Program) (h : List Event) (races : List Race) (end : Finish) (s : Status) (text : List ℕ)
+    → IsGoodRecord bytes P h races end → Says s end races → text ≡ legal_text (length h) (length races) → Comes command.Replay bytes s h text
 good_comes bytes P h races end s text good says due = inr (record {
   program = good.0.program;
   given = (h, races, end, good.0.record_is);
@@ -72,16 +74,19 @@ good_comes bytes P h races end s text good says due = inr (record {
 })
 
 -- this comes of a program that was run
-ran_comes : (c : Command) (bound : ℕ) (kept : Form) (workers : ℕ) (bytes : List ℕ) (P : tree.Program) (s : Status) (h : List Event) (text : List ℕ) → AsksRun c bound kept workers → IsWellTypedText bytes P → IsRunDue workers bound kept bytes P s h text → Comes c bytes s h text
+ran_comes : (c : Command) (bound : ℕ) (kept : Form) (workers : ℕ) (bytes : List ℕ) (P : tree.Program) (s : Status) (h : List Event) (text : List ℕ)
+    → AsksRun c bound kept workers → IsWellTypedText bytes P → IsRunDue workers bound kept bytes P s h text → Comes c bytes s h text
 ran_comes command.Check bound kept workers bytes P s h text asked typed ran = absurd asked
 ran_comes command.Replay bound kept workers bytes P s h text asked typed ran = absurd asked
 ran_comes (command.Run events brief crew) bound kept workers bytes P s h text (e, f, w) typed ran =
     let due : IsRunDue crew events (form_of brief) bytes P s h text =
-    subst (λ n. IsRunDue n events (form_of brief) bytes P s h text) (sym w) (subst (λ n. IsRunDue workers n (form_of brief) bytes P s h text) (sym e) (subst (λ x. IsRunDue workers bound x bytes P s h text) (sym f) ran)) in
+    subst (λ n. IsRunDue n events (form_of brief) bytes P s h text) (sym w)
+    (subst (λ n. IsRunDue workers n (form_of brief) bytes P s h text) (sym e) (subst (λ x. IsRunDue workers bound x bytes P s h text) (sym f) ran)) in
     inr (record { program = bytes; given = refl; due = inr (inr (record { tree = P; typed = typed; due = due })) })
 ran_comes (command.Load side events crew) bound kept workers bytes P s h text (e, f, w) typed ran =
     let due : IsRunDue crew events form.Summed bytes P s h text =
-    subst (λ n. IsRunDue n events form.Summed bytes P s h text) (sym w) (subst (λ n. IsRunDue workers n form.Summed bytes P s h text) (sym e) (subst (λ x. IsRunDue workers bound x bytes P s h text) (sym f) ran)) in
+    subst (λ n. IsRunDue n events form.Summed bytes P s h text) (sym w)
+    (subst (λ n. IsRunDue workers n form.Summed bytes P s h text) (sym e) (subst (λ x. IsRunDue workers bound x bytes P s h text) (sym f) ran)) in
     inr (record { program = bytes; given = refl; due = inr (inr (record { tree = P; typed = typed; due = due })) })
 
 of_history : (a : Asked) (s : Status) (h : List Event) (text : List ℕ) → IsOfHistory a s h text → Cause a s h text
@@ -101,7 +106,12 @@ cause_of a status.Accepted h text v some =
     (inr (record { program = v.bytes; given = refl; due = inr (inr (record { tree = v.holds.0; typed = v.holds.1; due = (refl, v.no_run, v.holds.2) })) }))
 cause_of a (status.Syntax line column) h text (c, v) some =
     of_read a c v.bytes (status.Syntax line column) h text v.words v.read
-    (inr (record { program = v.holds.0; given = v.holds.1; due = inl (record { place = record { line = line; column = column }; fault = v.holds.2; is = (refl, v.no_run, v.is_due) }) }))
+    (inr
+    (record {
+      program = v.holds.0;
+      given = v.holds.1;
+      due = inl (record { place = record { line = line; column = column }; fault = v.holds.2; is = (refl, v.no_run, v.is_due) });
+    }))
 cause_of a (status.IllTyped rule line column) h text (c, v) some =
     of_read a c v.bytes (status.IllTyped rule line column) h text v.words v.read
     (inr (record {
@@ -161,14 +171,16 @@ on_one a one (command.Run bound brief workers) x = one (command.Run bound brief 
 on_one a one (command.Load side bound workers) x = one (command.Load side bound workers) bound form.Summed workers x (refl, refl, refl)
 
 -- what is read whole is not too long
-long_or_read : (a b : Asked) (bytes : List ℕ) (c d : Command) (read : List ℕ) → IsTold a bytes → IsTold b bytes → c ≡ d → Reads c → GaveTooMuch a (most_bytes c) → IsInput b d read → ⊥
+long_or_read : (a b : Asked) (bytes : List ℕ) (c d : Command) (read : List ℕ) → IsTold a bytes → IsTold b bytes → c ≡ d → Reads c
+    → GaveTooMuch a (most_bytes c) → IsInput b d read → ⊥
 long_or_read a b bytes c d read x y same reads gave whole =
     let most = not_longer a.left_before a.left_after gave.bytes bytes x.left gave.taken in
     let taken = all_of d b.left_before b.left_after b.ended read (subst Reads same reads) whole.taken in
     let all = all_left b.left_before b.left_after read bytes y.left taken.0 taken.1 in
     omega (arith, most, gave.long, whole.short, ap length all, ap most_bytes same)
 
-one_cause : (a b : Asked) (bytes : List ℕ) (s r : Status) (h g : List Event) (text other : List ℕ) → AreAlike a b bytes → AsksOneWorker a → Cause a s h text → Cause b r g other → Same s h text r g other
+one_cause : (a b : Asked) (bytes : List ℕ) (s r : Status) (h g : List Event) (text other : List ℕ) → AreAlike a b bytes → AsksOneWorker a → Cause a s h text
+    → Cause b r g other → Same s h text r g other
 one_cause a b bytes s r h g text other alike one (inl x) (inl y) = same_by s r status.Usage h g [] text other _ x.is y.is
 one_cause a b bytes s r h g text other alike one (inl x) (inr (inl y)) = absurd (x.none y.command (asked_back a b bytes alike y.command y.words))
 one_cause a b bytes s r h g text other alike one (inl x) (inr (inr (inl y))) = absurd (x.none y.command (asked_back a b bytes alike y.command y.words))
@@ -184,17 +196,22 @@ one_cause a b bytes s r h g text other alike one (inr (inr (inl x))) (inr (inl y
     absurd (quiet_stays a.faults_before a.faults_after alike.told.can_rise x.gave.quiet (alike.failed.1 y.rose))
 one_cause a b bytes s r h g text other alike one (inr (inr (inl x))) (inr (inr (inl y))) = same_by s r status.TooLong h g [] text other _ x.is y.is
 one_cause a b bytes s r h g text other alike one (inr (inr (inl x))) (inr (inr (inr y))) =
-    absurd (long_or_read a b bytes x.command y.command y.bytes alike.told alike.other_told (one_asked a b bytes alike x.command y.command x.words y.words) x.reads x.gave y.read)
+    absurd
+    (long_or_read a b bytes x.command y.command y.bytes alike.told alike.other_told
+    (one_asked a b bytes alike x.command y.command x.words y.words) x.reads x.gave y.read)
 one_cause a b bytes s r h g text other alike one (inr (inr (inr x))) (inl y) = absurd (y.none x.command (asked_on a b bytes alike x.command x.words))
 one_cause a b bytes s r h g text other alike one (inr (inr (inr x))) (inr (inl y)) =
     absurd (quiet_stays a.faults_before a.faults_after alike.told.can_rise x.read.quiet (alike.failed.1 y.rose))
 one_cause a b bytes s r h g text other alike one (inr (inr (inr x))) (inr (inr (inl y))) =
-    absurd (long_or_read b a bytes y.command x.command x.bytes alike.other_told alike.told (sym (one_asked a b bytes alike x.command y.command x.words y.words)) y.reads y.gave x.read)
+    absurd
+    (long_or_read b a bytes y.command x.command x.bytes alike.other_told alike.told
+    (sym (one_asked a b bytes alike x.command y.command x.words y.words)) y.reads y.gave x.read)
 one_cause a b bytes s r h g text other alike one (inr (inr (inr x))) (inr (inr (inr y))) =
     let same = one_asked a b bytes alike x.command y.command x.words y.words in
     let mine = subst (λ c. IsInput a c x.bytes) same x.read in
     let bytes_are : x.bytes ≡ y.bytes =
-    one_taken y.command a.left_before a.left_after a.ended x.bytes b.left_before b.left_after b.ended y.bytes bytes alike.told.left alike.other_told.left mine.taken y.read.taken in
+    one_taken y.command a.left_before a.left_after a.ended x.bytes b.left_before b.left_after b.ended y.bytes bytes alike.told.left alike.other_told.left
+    mine.taken y.read.taken in
     one_comes y.command y.bytes s r h g text other (on_one a one y.command (asked_back a b bytes alike y.command y.words))
     (subst (λ c. Comes c y.bytes s h text) same (subst (λ bs. Comes x.command bs s h text) bytes_are x.comes))
     y.comes
@@ -234,19 +251,25 @@ record WroteRecord (s : Status) (h : List Event) (text : List ℕ) : Type 0 wher
   good : IsGoodRecord text tree h races end
   says : Says s end races
 
-wrote_record : (a : Asked) (bound workers : ℕ) (s : Status) (h : List Event) (text : List ℕ) → Asks a (command.Run bound false workers) → IsOfHistory a s h text → WroteRecord s h text
+wrote_record : (a : Asked) (bound workers : ℕ) (s : Status) (h : List Event) (text : List ℕ) → Asks a (command.Run bound false workers)
+    → IsOfHistory a s h text → WroteRecord s h text
 wrote_record a bound workers s h text words (inl v) = record {
   tree = v.tree;
   races = v.races;
   end = v.end;
   good =
-      v.replayed (sym (subst (λ c. AsksRun c v.bound v.due v.workers) (one_command a.may_run a.words v.command (command.Run bound false workers) v.words words) v.asked).1);
+      v.replayed
+      (sym
+      (subst (λ c. AsksRun c v.bound v.due v.workers) (one_command a.may_run a.words v.command (command.Run bound false workers) v.words words) v.asked).1);
   says = v.ends.1;
 }
 wrote_record a bound workers s h text words (inr v) =
-    absurd (let same : command.Replay ≡ command.Run bound false workers = one_command a.may_run a.words command.Replay (command.Run bound false workers) v.words words in cc)
+    absurd
+    (let same : command.Replay ≡ command.Run bound false workers =
+    one_command a.may_run a.words command.Replay (command.Run bound false workers) v.words words in cc)
 
-replayed : (b : Asked) (s r : Status) (h g : List Event) (text other : List ℕ) → WroteRecord s h text → Asks b command.Replay → b.left_before ≡ Some text → length text ≤ most_bytes command.Replay → (Rose b.faults_before b.faults_after → ⊥) → Cause b r g other → (r ≡ s) × (g ≡ h)
+replayed : (b : Asked) (s r : Status) (h g : List Event) (text other : List ℕ) → WroteRecord s h text → Asks b command.Replay → b.left_before ≡ Some text
+    → length text ≤ most_bytes command.Replay → (Rose b.faults_before b.faults_after → ⊥) → Cause b r g other → (r ≡ s) × (g ≡ h)
 replayed b s r h g text other wrote words left short quiet (inl x) = absurd (x.none command.Replay words)
 replayed b s r h g text other wrote words left short quiet (inr (inl x)) = absurd (quiet x.rose)
 replayed b s r h g text other wrote words left short quiet (inr (inr (inl x))) =
@@ -265,4 +288,5 @@ replayed b s r h g text other wrote words left short quiet (inr (inr (inr x))) =
 
 pub replay_answers_run : ReplayAnswersRun
 replay_answers_run a b bound workers s r h g text other words tells v replays left short quiet w some =
-    replayed b s r h g text other (wrote_record a bound workers s h text words (history_of a s h text tells v)) replays left short quiet (cause_of b r g other w some)
+    replayed b s r h g text other (wrote_record a bound workers s h text words (history_of a s h text tells v)) replays left short quiet
+    (cause_of b r g other w some)

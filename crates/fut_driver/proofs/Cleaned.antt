@@ -13,7 +13,8 @@ use Rattle.fut_driver.specs.Clean.{AnswersForAll, CleanAnswersForAll}
 use Rattle.fut_driver.proofs.Inputs.{given_whole}
 
 -- a whole history without a race answers for all
-for_all : (P : tree.Program) (h : List Event) (races : List Race) (end : Finish) → FinishHolds P h end → end ≡ finish.Whole → IsReport h races → races ≡ [] → AnswersForAll P h
+for_all : (P : tree.Program) (h : List Event) (races : List Race) (end : Finish) → FinishHolds P h end → end ≡ finish.Whole → IsReport h races → races ≡ []
+    → AnswersForAll P h
 for_all P h races end holds whole report none =
     let w : IsWhole P h = subst (FinishHolds P h) whole holds in
     let r : IsReport h [] = subst (IsReport h) none report in
@@ -45,6 +46,14 @@ clean_answers_for_all a h text (inr x) =
     let record_of = x.good.0 in
     let those = x.good.1.those in (
       x.tree,
-      record { command = command.Replay; words = x.words; bytes = x.bytes; read = x.read; text = record_of.program; given = (h, x.races, x.end, record_of.record_is); typed = record_of.typed },
+      record {
+        command = command.Replay;
+        words = x.words;
+        bytes = x.bytes;
+        read = x.read;
+        text = record_of.program;
+        given = (h, x.races, x.end, record_of.record_is);
+        typed = record_of.typed;
+      },
       for_all x.tree h x.races x.end those.1 x.says.0 those.0 x.says.1,
     )

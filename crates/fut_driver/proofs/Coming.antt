@@ -8,7 +8,7 @@ use Rattle.fut_base.specs.declared.record.Finish.{Finish}
 use Rattle.fut_base.specs.declared.record.Finish.TheVariants as finish
 use Rattle.fut_base.specs.Racing.{IsReport}
 use Rattle.fut_base.proofs.Reports.{one_report}
-use Rattle.fut_tokens.specs.declared.token.Place.{Place}
+use Rattle.fut_tokens.specs.declared.token.Position.{Position}
 use Rattle.fut_tokens.proofs.Cuts.{tokens_once}
 use Rattle.fut_syntax.specs.Trees as tree
 use Rattle.fut_syntax.specs.Faults.{IsFault as IsTokenFault}
@@ -46,16 +46,16 @@ same_by s r x h g i text other due p q = (p.0 ∙ sym q.0, p.1 ∙ sym q.1, p.2 
 
 -- ---- places
 
-some_place : (p q : Place) → Some p ≡ Some q → p ≡ q
+some_place : (p q : Position) → Some p ≡ Some q → p ≡ q
 some_place p q h = cc
 
 -- the tokens before the fault are as many as are not at it or behind it
-before_is : (bytes : List ℕ) (place : Place) (f : IsFaultPlace bytes place) → length f.fault.before ≡ length f.tokens - (f.left + 1)
+before_is : (bytes : List ℕ) (place : Position) (f : IsFaultPlace bytes place) → length f.fault.before ≡ length f.tokens - (f.left + 1)
 before_is bytes place f =
     let sum = ap length f.fault.whole ∙ length-append f.fault.before (f.fault.token ∷ f.fault.behind) in
     omega (arith, sum, f.fault.left_is)
 
-one_fault_place : (bytes : List ℕ) (p q : Place) → IsFaultPlace bytes p → IsFaultPlace bytes q → p ≡ q
+one_fault_place : (bytes : List ℕ) (p q : Position) → IsFaultPlace bytes p → IsFaultPlace bytes q → p ≡ q
 one_fault_place bytes p q x y =
     let same = tokens_once bytes x.tokens y.tokens x.places y.places x.cut y.cut in
     let left : x.left ≡ y.left = fault_once y.tokens x.left y.left (subst (λ ts. IsTokenFault ts x.left) same.0 x.fault) y.fault in
@@ -64,7 +64,7 @@ one_fault_place bytes p q x y =
     some_place p q (sym x.stands ∙ (ap (λ ps. slice_get ps (length x.fault.before)) same.1 ∙ (ap (slice_get y.places) count ∙ y.stands)))
 
 -- the first fault of a text has one rule and one place
-one_type_fault : (bytes : List ℕ) (m n : ℕ) (p q : Place) → IsIllTypedText bytes m p → IsIllTypedText bytes n q → (m ≡ n) × (p ≡ q)
+one_type_fault : (bytes : List ℕ) (m n : ℕ) (p q : Position) → IsIllTypedText bytes m p → IsIllTypedText bytes n q → (m ≡ n) × (p ≡ q)
 one_type_fault bytes m n p q x y =
     let tree_is : x.tree ≡ y.tree = one_program bytes x.tree y.tree x.program y.program in
     let first : IsFirst x.fault (faults_of y.tree) = subst (λ (t : tree.Program). IsFirst x.fault (faults_of t)) tree_is x.first in
@@ -75,11 +75,11 @@ one_type_fault bytes m n p q x y =
     )
 
 -- a program that breaks no rule has no fault place
-pub no_syntax : (text : List ℕ) (P : tree.Program) (place : Place) → IsWellTypedText text P → IsFaultPlace text place → ⊥
+pub no_syntax : (text : List ℕ) (P : tree.Program) (place : Position) → IsWellTypedText text P → IsFaultPlace text place → ⊥
 no_syntax text P place typed fault = no_faulty_program text place P fault typed.program
 
 -- and no first fault
-pub no_type_fault : (text : List ℕ) (P : tree.Program) (number : ℕ) (place : Place) → IsWellTypedText text P → IsIllTypedText text number place → ⊥
+pub no_type_fault : (text : List ℕ) (P : tree.Program) (number : ℕ) (place : Position) → IsWellTypedText text P → IsIllTypedText text number place → ⊥
 no_type_fault text P number place typed ill =
     let same : ill.tree ≡ P = one_program text ill.tree P ill.program typed.program in
     subst (IsAmong ill.fault) (ap faults_of same ∙ typed.well_typed) ill.first.among
@@ -113,14 +113,16 @@ pub record IsRunDue (workers bound : ℕ) (due : Form) (bytes : List ℕ) (P : t
   pub ends : EndsIn P workers bound s end h races cells
   pub is_due : text ≡ run_due due bytes (cell_arrays P) h races end cells
 
-one_run : (workers bound : ℕ) (kept : Form) (bytes : List ℕ) (P : tree.Program) (s r : Status) (h g : List Event) (text other : List ℕ) → workers ≡ 1 → IsRunDue workers bound kept bytes P s h text → IsRunDue workers bound kept bytes P r g other → Same s h text r g other
+one_run : (workers bound : ℕ) (kept : Form) (bytes : List ℕ) (P : tree.Program) (s r : Status) (h g : List Event) (text other : List ℕ) → workers ≡ 1
+    → IsRunDue workers bound kept bytes P s h text → IsRunDue workers bound kept bytes P r g other → Same s h text r g other
 one_run workers bound kept bytes P s r h g text other one x y =
     let run = serial_is_one P (limits_of bound) h g x.end y.end x.cells y.cells (x.ends.0.serial one) (y.ends.0.serial one) in
     let races_are : x.races ≡ y.races = one_report g x.races y.races (subst (λ e. IsReport e x.races) run.0 x.ends.0.report) y.ends.0.report in
     let ending : ending_of x.end x.races ≡ ending_of y.end y.races = ap (λ e. ending_of e x.races) run.1 ∙ ap (ending_of y.end) races_are in
     let due = λ (e : List Event) (rs : List Race) (f : Finish) (cs : List ℤ). run_due kept bytes (cell_arrays P) e rs f cs in
     let dues : due h x.races x.end x.cells ≡ due g y.races y.end y.cells =
-    ap (λ e. due e x.races x.end x.cells) run.0 ∙ (ap (λ rs. due g rs x.end x.cells) races_are ∙ (ap (λ f. due g y.races f x.cells) run.1 ∙ ap (due g y.races y.end) run.2)) in
+    ap (λ e. due e x.races x.end x.cells) run.0
+    ∙ (ap (λ rs. due g rs x.end x.cells) races_are ∙ (ap (λ f. due g y.races f x.cells) run.1 ∙ ap (due g y.races y.end) run.2)) in
     (says_how s x.end x.races x.ends.1 ∙ (ending ∙ sym (says_how r y.end y.races y.ends.1)), run.0, x.is_due ∙ (dues ∙ sym y.is_due))
 
 -- ---- records
@@ -131,7 +133,8 @@ IsJudged P events races end s h text =
     (IsAccepted P events races end × Says s end races × (h ≡ events) × (text ≡ legal_text (length events) (length races)))
     ⊎ ((entry : ℕ) × IsRefusedAt P events races end entry × Same s h text (status.NotLegal entry) [] (not_legal_text entry))
 
-one_judgement : (P : tree.Program) (events : List Event) (races : List Race) (end : Finish) (s r : Status) (h g : List Event) (text other : List ℕ) → IsJudged P events races end s h text → IsJudged P events races end r g other → Same s h text r g other
+one_judgement : (P : tree.Program) (events : List Event) (races : List Race) (end : Finish) (s r : Status) (h g : List Event) (text other : List ℕ)
+    → IsJudged P events races end s h text → IsJudged P events races end r g other → Same s h text r g other
 one_judgement P events races end s r h g text other (inl x) (inl y) =
     (says_how s end races x.1 ∙ sym (says_how r end races y.1), x.2 ∙ sym y.2, x.3 ∙ sym y.3)
 one_judgement P events races end s r h g text other (inl x) (inr y) = absurd (accepted_is_not_refused P events races end y.0 x.0 y.1)
@@ -149,11 +152,13 @@ pub record IsRecordDue (bytes : List ℕ) (P : tree.Program) (s : Status) (h : L
   pub record_is : IsRunText bytes program events races end
   pub judged : IsJudged P events races end s h text
 
-one_record : (bytes : List ℕ) (P : tree.Program) (s r : Status) (h g : List Event) (text other : List ℕ) → IsRecordDue bytes P s h text → IsRecordDue bytes P r g other → Same s h text r g other
+one_record : (bytes : List ℕ) (P : tree.Program) (s r : Status) (h g : List Event) (text other : List ℕ) → IsRecordDue bytes P s h text
+    → IsRecordDue bytes P r g other → Same s h text r g other
 one_record bytes P s r h g text other x y =
     let same = one_value bytes x.program x.events x.races x.end y.program y.events y.races y.end x.record_is y.record_is in
     let moved : IsJudged P y.events y.races y.end s h text =
-    subst (λ f. IsJudged P y.events y.races f s h text) same.3 (subst (λ rs. IsJudged P y.events rs x.end s h text) same.2 (subst (λ es. IsJudged P es x.races x.end s h text) same.1 x.judged)) in
+    subst (λ f. IsJudged P y.events y.races f s h text) same.3
+    (subst (λ rs. IsJudged P y.events rs x.end s h text) same.2 (subst (λ es. IsJudged P es x.races x.end s h text) same.1 x.judged)) in
     one_judgement P y.events y.races y.end s r h g text other moved y.judged
 
 -- ---- texts
@@ -172,7 +177,8 @@ IsGoodDue (command.Run bound brief workers) bytes P s h text = IsRunDue workers 
 IsGoodDue (command.Load side bound workers) bytes P s h text = IsRunDue workers bound form.Summed bytes P s h text
 IsGoodDue command.Replay bytes P s h text = IsRecordDue bytes P s h text
 
-one_good : (c : Command) (bytes : List ℕ) (P : tree.Program) (s r : Status) (h g : List Event) (text other : List ℕ) → OnOneWorker c → IsGoodDue c bytes P s h text → IsGoodDue c bytes P r g other → Same s h text r g other
+one_good : (c : Command) (bytes : List ℕ) (P : tree.Program) (s r : Status) (h g : List Event) (text other : List ℕ) → OnOneWorker c
+    → IsGoodDue c bytes P s h text → IsGoodDue c bytes P r g other → Same s h text r g other
 one_good command.Check bytes P s r h g text other one x y = same_by s r status.Accepted h g [] text other (canonical_text P) x y
 one_good (command.Run bound brief workers) bytes P s r h g text other one x y = one_run workers bound (form_of brief) bytes P s r h g text other one x y
 one_good (command.Load side bound workers) bytes P s r h g text other one x y = one_run workers bound form.Summed bytes P s r h g text other one x y
@@ -180,14 +186,14 @@ one_good command.Replay bytes P s r h g text other one x y = one_record bytes P 
 
 -- the program text has a fault place
 pub record IsSyntaxDue (program : List ℕ) (s : Status) (h : List Event) (text : List ℕ) : Type 0 where
-  pub place : Place
+  pub place : Position
   pub fault : IsFaultPlace program place
   pub is : Same s h text (status.Syntax place.line place.column) [] (syntax_text place.line place.column)
 
 -- it is a program that breaks a type rule
 pub record IsTypeDue (program : List ℕ) (s : Status) (h : List Event) (text : List ℕ) : Type 0 where
   pub number : ℕ
-  pub place : Place
+  pub place : Position
   pub fault : IsIllTypedText program number place
   pub is : Same s h text (status.IllTyped number place.line place.column) [] (type_text number place.line place.column)
 
@@ -200,18 +206,19 @@ pub record IsTypedDue (c : Command) (bytes program : List ℕ) (s : Status) (h :
 abbrev pub IsTextDue : Command → List ℕ → List ℕ → Status → List Event → List ℕ → Type 0
 IsTextDue c bytes program s h text = IsSyntaxDue program s h text ⊎ (IsTypeDue program s h text ⊎ IsTypedDue c bytes program s h text)
 
-one_text : (c : Command) (bytes program : List ℕ) (s r : Status) (h g : List Event) (text other : List ℕ) → OnOneWorker c → IsTextDue c bytes program s h text → IsTextDue c bytes program r g other → Same s h text r g other
+one_text : (c : Command) (bytes program : List ℕ) (s r : Status) (h g : List Event) (text other : List ℕ) → OnOneWorker c → IsTextDue c bytes program s h text
+    → IsTextDue c bytes program r g other → Same s h text r g other
 one_text c bytes program s r h g text other one (inl x) (inl y) =
     let place : x.place ≡ y.place = one_fault_place program x.place y.place x.fault y.fault in
     same_by s r (status.Syntax y.place.line y.place.column) h g [] text other (syntax_text y.place.line y.place.column)
-    (subst (λ (p : Place). Same s h text (status.Syntax p.line p.column) [] (syntax_text p.line p.column)) place x.is) y.is
+    (subst (λ (p : Position). Same s h text (status.Syntax p.line p.column) [] (syntax_text p.line p.column)) place x.is) y.is
 one_text c bytes program s r h g text other one (inl x) (inr (inl y)) = absurd (no_faulty_program program x.place y.fault.tree x.fault y.fault.program)
 one_text c bytes program s r h g text other one (inl x) (inr (inr y)) = absurd (no_syntax program y.tree x.place y.typed x.fault)
 one_text c bytes program s r h g text other one (inr (inl x)) (inl y) = absurd (no_faulty_program program y.place x.fault.tree y.fault x.fault.program)
 one_text c bytes program s r h g text other one (inr (inl x)) (inr (inl y)) =
     let same = one_type_fault program x.number y.number x.place y.place x.fault y.fault in
     let moved : Same s h text (status.IllTyped y.number y.place.line y.place.column) [] (type_text y.number y.place.line y.place.column) =
-    subst (λ (p : Place). Same s h text (status.IllTyped y.number p.line p.column) [] (type_text y.number p.line p.column)) same.1
+    subst (λ (p : Position). Same s h text (status.IllTyped y.number p.line p.column) [] (type_text y.number p.line p.column)) same.1
     (subst (λ n. Same s h text (status.IllTyped n x.place.line x.place.column) [] (type_text n x.place.line x.place.column)) same.0 x.is) in
     same_by s r (status.IllTyped y.number y.place.line y.place.column) h g [] text other (type_text y.number y.place.line y.place.column) moved y.is
 one_text c bytes program s r h g text other one (inr (inl x)) (inr (inr y)) = absurd (no_type_fault program y.tree x.number x.place y.typed x.fault)
@@ -252,7 +259,8 @@ not_both command.Check bytes p byte is fault given = cc
 not_both (command.Run _ _ _) bytes p byte is fault given = cc
 not_both (command.Load _ _ _) bytes p byte is fault given = cc
 
-pub one_comes : (c : Command) (bytes : List ℕ) (s r : Status) (h g : List Event) (text other : List ℕ) → OnOneWorker c → Comes c bytes s h text → Comes c bytes r g other → Same s h text r g other
+pub one_comes : (c : Command) (bytes : List ℕ) (s r : Status) (h g : List Event) (text other : List ℕ) → OnOneWorker c → Comes c bytes s h text
+    → Comes c bytes r g other → Same s h text r g other
 one_comes c bytes s r h g text other one (inl x) (inl y) =
     let byte : x.byte ≡ y.byte = one_fault bytes x.byte y.byte x.fault y.fault in
     same_by s r (status.NotRun y.byte) h g [] text other (not_run_text y.byte)

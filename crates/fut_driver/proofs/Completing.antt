@@ -13,7 +13,8 @@ use Rattle.command_words.specs.declared.words.Command.{Command}
 use Rattle.command_words.specs.declared.words.Command.TheVariants as command
 use Rattle.command_words.specs.Asking.{most_bytes}
 use Rattle.fut_driver.specs.Given.{Asked, Told, Asks}
-use Rattle.fut_driver.specs.Verdict.{Reads, IsLeft, IsInput, IsWellTypedText, IsRefusedRecord, GaveTooMuch, IsGiven, IsOfHistory, IsVerdict, IsFit, IsUnhindered, AsksHistory, IsFree}
+use Rattle.fut_driver.specs.Verdict.{Reads, IsLeft, IsInput, IsWellTypedText, IsRefusedRecord, GaveTooMuch}
+use Rattle.fut_driver.specs.Verdict.{IsGiven, IsOfHistory, IsVerdict, IsFit, IsUnhindered, AsksHistory, IsFree}
 use Rattle.command_words.proofs.Wording.{one_command}
 use Rattle.fut_driver.proofs.Coming.{no_syntax, no_type_fault}
 use Rattle.fut_driver.proofs.Consuming.{not_longer}
@@ -48,7 +49,9 @@ not_refused bytes k (P, h, races, end, (of, accepted)) bad =
     let typed : IsWellTypedText of.program bad.tree = subst (λ p. IsWellTypedText p bad.tree) same.0 bad.record_is.typed in
     let tree_is : bad.tree ≡ P = one_program of.program bad.tree P typed.program of.typed.program in
     let moved : IsRefusedAt P h races end k =
-    subst (λ x. IsRefusedAt P h races x k) same.3 (subst (λ x. IsRefusedAt P h x bad.end k) same.2 (subst (λ x. IsRefusedAt P x bad.races bad.end k) same.1 (subst (λ x. IsRefusedAt x bad.events bad.races bad.end k) tree_is bad.refused))) in
+    subst (λ x. IsRefusedAt P h races x k) same.3
+    (subst (λ x. IsRefusedAt P h x bad.end k) same.2
+    (subst (λ x. IsRefusedAt P x bad.races bad.end k) same.1 (subst (λ x. IsRefusedAt x bad.events bad.races bad.end k) tree_is bad.refused))) in
     accepted_is_not_refused P h races end k accepted moved
 
 -- ---- the answer
@@ -59,7 +62,8 @@ command_fit a t u c bytes words read =
     subst (λ d. IsFit d bytes) (one_command a.may_run a.words u.command c u.words words)
     (subst (IsFit u.command) (sym (read_is a t u c bytes words read)) u.fit)
 
-text_typed : (a : Asked) (t : Told) (u : IsUnhindered a t) (c : Command) (bytes program : List ℕ) → Asks a c → IsInput a c bytes → IsGiven c bytes program → (P : tree.Program) × IsWellTypedText program P
+text_typed : (a : Asked) (t : Told) (u : IsUnhindered a t) (c : Command) (bytes program : List ℕ) → Asks a c → IsInput a c bytes → IsGiven c bytes program
+    → (P : tree.Program) × IsWellTypedText program P
 text_typed a t u c bytes program words read given =
     given_typed c bytes program given (command_fit a t u c bytes words read)
 

@@ -33,7 +33,8 @@ was_left (command.Run _ _ _) left bytes reads is = is
 was_left (command.Load _ _ _) left bytes reads is = absurd reads
 
 -- a source that was read gives a command that reads what it works on
-pub read_input : (c : Command) (old new : Option (List ℕ)) (ended : Bool) (before now : ℕ) (r : Input) → Reads c → ReadsAll (most_bytes c) old new ended before now r → IsInputOf c old new ended before now r
+pub read_input : (c : Command) (old new : Option (List ℕ)) (ended : Bool) (before now : ℕ) (r : Input) → Reads c
+    → ReadsAll (most_bytes c) old new ended before now r → IsInputOf c old new ended before now r
 read_input c old new ended before now (input.Whole bytes) reads all = (all.0, is_taken c old new ended bytes.items reads (all.1, all.2, all.3), all.4)
 read_input c old new ended before now input.TooLong reads all = (all.0, reads, all.1, all.2, all.3)
 read_input c old new ended before now input.Failed reads all = (reads, all.0, all.1)
@@ -52,17 +53,22 @@ all_is : (old new : Option (List ℕ)) (ended : Bool) (bytes left : List ℕ) �
 all_is old new ended bytes left is all = all_left old new bytes left is all.0 all.1
 
 -- what is taken is what was left
-pub taken_is_left : (c : Command) (old new : Option (List ℕ)) (ended : Bool) (bytes left : List ℕ) → IsLeft c old left → IsTaken c old new ended bytes → bytes ≡ left
+pub taken_is_left : (c : Command) (old new : Option (List ℕ)) (ended : Bool) (bytes left : List ℕ) → IsLeft c old left → IsTaken c old new ended bytes
+    → bytes ≡ left
 taken_is_left command.Check old new ended bytes left is taken = all_is old new ended bytes left is taken
 taken_is_left command.Replay old new ended bytes left is taken = all_is old new ended bytes left is taken
 taken_is_left (command.Run _ _ _) old new ended bytes left is taken = all_is old new ended bytes left is taken
 taken_is_left (command.Load _ _ _) old new ended bytes left is taken = taken.0 ∙ sym is
 
 -- of two sources that had the same the same is taken
-pub one_taken : (c : Command) (old new : Option (List ℕ)) (ended : Bool) (bytes : List ℕ) (old' new' : Option (List ℕ)) (ended' : Bool) (bytes' left : List ℕ) → old ≡ Some left → old' ≡ Some left → IsTaken c old new ended bytes → IsTaken c old' new' ended' bytes' → bytes ≡ bytes'
-one_taken command.Check old new ended bytes old' new' ended' bytes' left is is' x y = all_is old new ended bytes left is x ∙ sym (all_is old' new' ended' bytes' left is' y)
-one_taken command.Replay old new ended bytes old' new' ended' bytes' left is is' x y = all_is old new ended bytes left is x ∙ sym (all_is old' new' ended' bytes' left is' y)
-one_taken (command.Run _ _ _) old new ended bytes old' new' ended' bytes' left is is' x y = all_is old new ended bytes left is x ∙ sym (all_is old' new' ended' bytes' left is' y)
+pub one_taken : (c : Command) (old new : Option (List ℕ)) (ended : Bool) (bytes : List ℕ) (old' new' : Option (List ℕ)) (ended' : Bool) (bytes' left : List ℕ)
+    → old ≡ Some left → old' ≡ Some left → IsTaken c old new ended bytes → IsTaken c old' new' ended' bytes' → bytes ≡ bytes'
+one_taken command.Check old new ended bytes old' new' ended' bytes' left is is' x y =
+    all_is old new ended bytes left is x ∙ sym (all_is old' new' ended' bytes' left is' y)
+one_taken command.Replay old new ended bytes old' new' ended' bytes' left is is' x y =
+    all_is old new ended bytes left is x ∙ sym (all_is old' new' ended' bytes' left is' y)
+one_taken (command.Run _ _ _) old new ended bytes old' new' ended' bytes' left is is' x y =
+    all_is old new ended bytes left is x ∙ sym (all_is old' new' ended' bytes' left is' y)
 one_taken (command.Load _ _ _) old new ended bytes old' new' ended' bytes' left is is' x y = x.0 ∙ sym y.0
 
 -- a command that asks for a run works on a program text

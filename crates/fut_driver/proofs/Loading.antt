@@ -32,7 +32,8 @@ is_short n side =
     omega (arith, total_is (load_parts n), digits, more, square)
 
 -- the text is what `load` works on
-pub load_input : (c : Command) (side events workers : ℕ) → c ≡ command.Load side events workers → IsBounded c → (left : Option (List ℕ)) (ended : Bool) (bytes : List ℕ) → bytes ≡ load_text side → (length bytes ≤ most_bytes c) × IsTaken c left left ended bytes
+pub load_input : (c : Command) (side events workers : ℕ) → c ≡ command.Load side events workers → IsBounded c
+    → (left : Option (List ℕ)) (ended : Bool) (bytes : List ℕ) → bytes ≡ load_text side → (length bytes ≤ most_bytes c) × IsTaken c left left ended bytes
 load_input command.Check side events workers is bounded left ended bytes text = absurd (cc)
 load_input command.Replay side events workers is bounded left ended bytes text = absurd (cc)
 load_input (command.Run _ _ _) side events workers is bounded left ended bytes text = absurd (cc)

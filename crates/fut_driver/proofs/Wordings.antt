@@ -59,7 +59,8 @@ module _ (a : Asked) (may_run : Bool) (words : List (List ℕ)) where
       is_due = v.is_due;
     })
 
-    bytes_so : (d : Command) (h : List Event) (text due : List ℕ) (Holds : List ℕ → Type 0) → IsOfBytes a d h text due Holds → IsOfBytes (with_words a may_run words) d h text due Holds
+    bytes_so : (d : Command) (h : List Event) (text due : List ℕ) (Holds : List ℕ → Type 0) → IsOfBytes a d h text due Holds
+        → IsOfBytes (with_words a may_run words) d h text due Holds
     bytes_so d h text due Holds v = record {
       words = asks_so d v.words;
       no_run = v.no_run;
@@ -114,7 +115,8 @@ one_is = sym (decimal_digit 1 (omega arith))
 none_more : (n : ℕ) → 0 + n ≡ n
 none_more n = omega arith
 
-run_options : (words : List (List ℕ)) (bound : ℕ) (brief : Bool) (workers : ℕ) → AreOptions kind.Serial words bound brief workers None → AreOptions kind.Run (codes "--workers" ∷ (codes "1" ∷ words)) bound brief 1 None
+run_options : (words : List (List ℕ)) (bound : ℕ) (brief : Bool) (workers : ℕ) → AreOptions kind.Serial words bound brief workers None
+    → AreOptions kind.Run (codes "--workers" ∷ (codes "1" ∷ words)) bound brief 1 None
 run_options words bound brief workers o =
     let none = none_names o.choices o.allowed in
     let events : 0 + count is_events o.choices ≤ 1 = omega (arith, o.once.events) in

@@ -37,7 +37,8 @@ main_parts n =
     ∷ (codes "] = h;\n  var up: fut int = h;\n  var i: int = 1;\n  var j: int = 1;\n  while j < " ∷ (decimal n
     ∷ (codes " { h = create top(j, h); row[j] = h; j = j + 1; }\n  while i < " ∷ (decimal n
     ∷ (codes " {\n    up = row[0];\n    h = create side(i, up);\n    row[0] = h;\n    j = 1;\n    while j < " ∷ (decimal n
-    ∷ (codes " {\n      up = row[j];\n      h = create inner(i, j, up, h);\n      row[j] = h;\n      j = j + 1;\n    }\n    i = i + 1;\n  }\n  var x: int = get h;\n  return x;\n}\n" ∷ []))))))))
+    ∷
+    (codes " {\n      up = row[j];\n      h = create inner(i, j, up, h);\n      row[j] = h;\n      j = j + 1;\n    }\n    i = i + 1;\n  }\n  var x: int = get h;\n  return x;\n}\n" ∷ []))))))))
 
 -- all parts of the text for a grid of n by n places
 abbrev pub load_parts : ℕ → List (List ℕ)

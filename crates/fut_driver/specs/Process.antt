@@ -10,8 +10,8 @@ use Rattle.std.specs.IoError.{error_kind}
 use Rattle.fut_base.specs.declared.event.Event.{Event}
 use Rattle.fut_base.specs.Ports.{Writes}
 use Rattle.fut_base.specs.declared.ports.Wrote.TheVariants as wrote
-use Rattle.fut_driver.specs.declared.line.Line.{Line}
-use Rattle.fut_driver.specs.declared.line.Line.TheVariants as line
+use Rattle.fut_driver.specs.declared.line.CommandLine.{CommandLine}
+use Rattle.fut_driver.specs.declared.line.CommandLine.TheVariants as line
 use Rattle.fut_driver.specs.declared.status.Status.{Status}
 use Rattle.fut_driver.specs.declared.status.Status.TheVariants as status
 use Rattle.fut_driver.specs.Given.{Asked, Told}
@@ -21,7 +21,7 @@ use Rattle.fut_driver.specs.Verdict.{IsAnswer}
 
 -- what was given is this command line: its words without the first, which is the program's name; that they were no words; or
 -- that there was no memory for them
-abbrev pub IsLineOf : {Z : Type 0} → Result (IntoIter (String Z) Z) Error → Line → Type 0
+abbrev pub IsLineOf : {Z : Type 0} → Result (IntoIter (String Z) Z) Error → CommandLine → Type 0
 IsLineOf (Ok args) (line.Words words) = words ≡ map string_bytes (drop 1 (into_iter_items args))
 IsLineOf (Ok args) line.NoMemory = Unit {0}
 IsLineOf (Ok args) line.Foreign = ⊥
@@ -37,16 +37,16 @@ IsRefusal t due s h = (h ≡ []) ×
 
 -- what comes of a command line: its words are answered; where it has none, that is usage; where there was no memory for them, nothing
 -- is written
-abbrev pub IsLineAnswer : Line → (List (List ℕ) → Asked) → Told → Status → List Event → Type 0
+abbrev pub IsLineAnswer : CommandLine → (List (List ℕ) → Asked) → Told → Status → List Event → Type 0
 IsLineAnswer (line.Words words) a t s h = IsAnswer (a words) t s h
 IsLineAnswer line.Foreign a t s h = IsRefusal t status.Usage s h
 IsLineAnswer line.NoMemory a t s h = (s ≡ status.NoMemory) × (h ≡ []) × Keeps t.held_before t.held_after × (t.faults_after ≡ t.faults_before)
 
 -- the process ends with the number of the status that comes of its command line
-abbrev pub EndsWith : Line → (List (List ℕ) → Asked) → Told → ℕ → Type 0
+abbrev pub EndsWith : CommandLine → (List (List ℕ) → Asked) → Told → ℕ → Type 0
 EndsWith line a t number = (s : Status) × (h : List Event) × IsLineAnswer line a t s h × (number ≡ status_number s)
 
 -- the command line has words
-abbrev pub HasWords : Line → Type 0
+abbrev pub HasWords : CommandLine → Type 0
 HasWords (line.Words words) = Unit {0}
 HasWords _ = ⊥

@@ -9,7 +9,7 @@ use Rattle.fut_base.specs.declared.record.Finish.TheVariants as finish
 use Rattle.fut_base.specs.Ports.{Rose, AppendsPart}
 use Rattle.fut_base.specs.Racing.{IsReport}
 use Rattle.fut_base.specs.declared.limits.TheConstants.{MOST_CREATES, MOST_LOCAL_STEPS}
-use Rattle.fut_tokens.specs.declared.token.Place.{Place}
+use Rattle.fut_tokens.specs.declared.token.Position.{Position}
 use Rattle.fut_tokens.specs.declared.token.Token.{Token}
 use Rattle.fut_syntax.specs.Trees as tree
 use Rattle.fut_tokens.specs.Lexed.{IsTokensOf}
@@ -76,14 +76,14 @@ pub record IsWellTypedText (bytes : List ℕ) (P : tree.Program) : Type 0 where
   pub well_typed : IsWellTyped P
 
 -- the text is a program whose first fault breaks the rule of this number, and its token stands here
-pub record IsIllTypedText (bytes : List ℕ) (number : ℕ) (place : Place) : Type 0 where
+pub record IsIllTypedText (bytes : List ℕ) (number : ℕ) (place : Position) : Type 0 where
   pub tree : tree.Program
   pub program : IsProgram bytes tree
   pub fault : Fault
   pub first : IsFirstFault tree fault
   pub rule : number ≡ rule_number fault.rule
   pub tokens : List Token
-  pub places : List Place
+  pub places : List Position
   pub cut : IsTokensOf bytes tokens places
   pub stands : slice_get places fault.token ≡ Some place
 
@@ -229,7 +229,8 @@ IsVerdict a status.ReadFault h text =
 IsVerdict a status.NoMemory h text = (h ≡ []) × (text ≡ codes "no memory\n") × (a.faults_after ≡ a.faults_before)
 -- the words have another form; nothing is read
 IsVerdict a status.Usage h text =
-    ((c : Command) → Asks a c → ⊥) × (h ≡ []) × (text ≡ codes "usage: forder run, serial, replay, check or load\n") × (a.left_after ≡ a.left_before) × (a.faults_after ≡ a.faults_before)
+    ((c : Command) → Asks a c → ⊥) × (h ≡ []) × (text ≡ codes "usage: forder run, serial, replay, check or load\n") × (a.left_after ≡ a.left_before)
+    × (a.faults_after ≡ a.faults_before)
 -- that a put failed is no verdict of its own
 IsVerdict a status.WriteFault h text = ⊥
 

@@ -32,7 +32,8 @@ const CHUNK: usize = 4096;
 /// Takes once, and adds to `bytes` what came.
 fn take_onto<S: Source>(source: &mut S, buffer: &mut [u8], bytes: &mut Vec<u8>) -> Step
     requires { 0 < length buffer.old }
-    ensures { Adds (length buffer.new) (S.left source.old) (S.left source.new) (S.ended source.new) (S.faults source.old) (S.faults source.new) bytes.old.items bytes.new.items result }
+    ensures { Adds (length buffer.new) (S.left source.old) (S.left source.new) (S.ended source.new) (S.faults source.old)
+        (S.faults source.new) bytes.old.items bytes.new.items result }
 {
     match source.take(buffer) {
         Took::Bytes(n) => match bytes.extend_from_slice(&buffer[..n]) {

@@ -64,7 +64,9 @@ fn run_job<R: Threads + Wait + Sync, G: Gate + Sync>(
     gate: &G,
 ) -> Result<Outcome, NoMemory>
     requires { (P : tree.Program) × IsJob P job.now }
-    ensures { IfOk result (λ o. (P : tree.Program) → IsJob P job.now → RanAs P job.now.workers job.now.events job.now.form job.now.text.items o.status (events_of o.history) o.text.items) }
+    ensures { IfOk result
+        (λ o. (P : tree.Program) → IsJob P job.now → RanAs P job.now.workers job.now.events job.now.form job.now.text.items o.status
+        (events_of o.history) o.text.items) }
 {
     let options = Options {
         workers: job.workers,

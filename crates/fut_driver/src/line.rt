@@ -11,7 +11,7 @@ use std::io;
 
 /// The words after the program's name.
 #[derive(Drop)]
-pub enum Line {
+pub enum CommandLine {
     Words(Words),
     /// They are no words, since one of them is not UTF-8.
     Foreign,
@@ -32,17 +32,17 @@ fn behind_name(alloc: Global, args: Args) -> Result<Words, NoMemory>
 }
 
 /// The command line in what was given for it. The first word is the program's name.
-pub fn line_of(alloc: Global, given: io::Result<Args>) -> Line
+pub fn line_of(alloc: Global, given: io::Result<Args>) -> CommandLine
     ensures { IsLineOf given result }
 {
     match given {
         Ok(args) => match behind_name(alloc, args) {
-            Ok(words) => Line::Words(words),
-            Err(NoMemory) => Line::NoMemory,
+            Ok(words) => CommandLine::Words(words),
+            Err(NoMemory) => CommandLine::NoMemory,
         },
         Err(error) => match error.kind() {
-            io::ErrorKind::OutOfMemory => Line::NoMemory,
-            _ => Line::Foreign,
+            io::ErrorKind::OutOfMemory => CommandLine::NoMemory,
+            _ => CommandLine::Foreign,
         },
     }
 }

@@ -2,11 +2,11 @@
 ghost use Rattle.std.specs.Prelude.{◌≡◌, true};
 ghost use Rattle.std.specs.Process.{exit_status};
 ghost use Rattle.fut_base.specs.Events.{events_of};
-ghost use Rattle.fut_driver.specs.declared.line.Line.{Line};
+ghost use Rattle.fut_driver.specs.declared.line.CommandLine.{CommandLine};
 ghost use Rattle.fut_driver.specs.Given.{Asked, Told, asked_of, told_of};
 ghost use Rattle.fut_driver.specs.Process.{EndsWith, HasWords, IsLineAnswer, IsLineOf, IsRefusal};
 
-use crate::line::{Line, line_of};
+use crate::line::{CommandLine, line_of};
 use crate::outcome::Outcome;
 use crate::status::{Ended, Status};
 use crate::top::forder;
@@ -31,7 +31,7 @@ pub fn carry_out<R: Threads + Wait + Sync, S: Source, K: Sink, G: Gate + Sync>(
     out: &mut K,
     gate: &G,
 ) -> ExitCode
-    ensures { (line : Line) × IsLineOf given line × EndsWith line
+    ensures { (line : CommandLine) × IsLineOf given line × EndsWith line
         (λ words. asked_of S.Source true words source.old source.new)
         (told_of K.Sink out.old out.new)
         (exit_status result) }
@@ -45,7 +45,7 @@ pub fn carry_out<R: Threads + Wait + Sync, S: Source, K: Sink, G: Gate + Sync>(
 pub fn answer_line<R: Threads + Wait + Sync, S: Source, K: Sink, G: Gate + Sync>(
     rt: &R,
     alloc: Global,
-    line: &Line,
+    line: &CommandLine,
     source: &mut S,
     out: &mut K,
     gate: &G,
@@ -59,9 +59,9 @@ pub fn answer_line<R: Threads + Wait + Sync, S: Source, K: Sink, G: Gate + Sync>
     ensures unread { (HasWords line.now → ⊥) → source.new ≡ source.old }
 {
     match line {
-        Line::Words(words) => forder(rt, alloc, words, source, out, gate),
-        Line::Foreign => refuse(alloc, Status::Usage, out),
-        Line::NoMemory => Ended {
+        CommandLine::Words(words) => forder(rt, alloc, words, source, out, gate),
+        CommandLine::Foreign => refuse(alloc, Status::Usage, out),
+        CommandLine::NoMemory => Ended {
             status: Status::NoMemory,
             history: History::make(alloc),
         },

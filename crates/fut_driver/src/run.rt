@@ -97,7 +97,8 @@ fn run_code(
     requires short { length text.now ≤ MOST_PROGRAM_BYTES }
     requires program { (P : tree.Program) × IsWellTyped P × IsCodeOf P code.now }
     requires bounded { IsBound events }
-    ensures { IfOk result (λ o. (P : tree.Program) → IsWellTyped P → IsCodeOf P code.now → RanAs P 1 events form text.now o.status (events_of o.history) o.text.items) }
+    ensures { IfOk result
+        (λ o. (P : tree.Program) → IsWellTyped P → IsCodeOf P code.now → RanAs P 1 events form text.now o.status (events_of o.history) o.text.items) }
 {
     let ran = serial(alloc, code, limits(events))?;
     let outcome = outcome_of_run(alloc, text, code, ran, events, form)?;
@@ -133,7 +134,8 @@ pub fn outcome_of_run(
 
 /// The text of a run that is due.
 fn made(alloc: Global, text: &[u8], code: &Code, ran: &Ran, form: Form) -> Result<Vec<u8>, NoMemory>
-    ensures { IfOk result (λ t. t.items ≡ run_due form text.now code.now.arrays (events_of ran.now.history) ran.now.races.items ran.now.finish ran.now.cells.items) }
+    ensures { IfOk result
+        (λ t. t.items ≡ run_due form text.now code.now.arrays (events_of ran.now.history) ran.now.races.items ran.now.finish ran.now.cells.items) }
 {
     let mut made = Gathered::make(alloc);
     let wrote = match form {

@@ -39,7 +39,8 @@ pub fn forder<R: Threads + Wait + Sync, S: Source, K: Sink, G: Gate + Sync>(
     gate: &G,
 ) -> Ended
     // The status, the history and what was written are those of a verdict whose causes hold.
-    ensures answer { IsAnswer (asked_of S.Source true words.now source.old source.new) (told_of K.Sink out.old out.new) result.status (events_of result.history) }
+    ensures answer { IsAnswer (asked_of S.Source true words.now source.old source.new) (told_of K.Sink out.old out.new) result.status
+        (events_of result.history) }
 
     // A well-typed program that nothing hinders is printed or run.
     ensures complete { IsComplete (asked_of S.Source true words.now source.old source.new) (told_of K.Sink out.old out.new) result.status }
@@ -60,7 +61,8 @@ pub fn forder<R: Threads + Wait + Sync, S: Source, K: Sink, G: Gate + Sync>(
 /// answer is `Usage`, and nothing is read.
 pub fn plain<S: Source, K: Sink>(alloc: Global, words: &Words, source: &mut S, out: &mut K) -> Ended
     // The status, the history and what was written are those of a verdict whose causes hold.
-    ensures answer { IsAnswer (asked_of S.Source false words.now source.old source.new) (told_of K.Sink out.old out.new) result.status (events_of result.history) }
+    ensures answer { IsAnswer (asked_of S.Source false words.now source.old source.new) (told_of K.Sink out.old out.new) result.status
+        (events_of result.history) }
 
     // A well-typed program that nothing hinders is printed or run.
     ensures complete { IsComplete (asked_of S.Source false words.now source.old source.new) (told_of K.Sink out.old out.new) result.status }

@@ -25,20 +25,24 @@ pub record Changed (old : List Seat) (t : ℕ) (y : Seat) (extra new : List Seat
   pub behind : (k : ℕ) → slice_get new (length old + k) ≡ slice_get extra k
   pub size : length new ≡ length old + length extra
 
-pub changed : (old : List Seat) (t : ℕ) (s y : Seat) (extra new : List Seat) → slice_get old t ≡ Some s → new ≡ slice_set old t y ++ extra → Changed old t y extra new
+pub changed : (old : List Seat) (t : ℕ) (s y : Seat) (extra new : List Seat) → slice_get old t ≡ Some s → new ≡ slice_set old t y ++ extra
+    → Changed old t y extra new
 changed old t s y extra new at is =
     let lt : t < length old = get_below old t s at in
     let set : length (slice_set old t y) ≡ length old = set_length old t y in
-    let low : (u : ℕ) → u < length old → slice_get new u ≡ slice_get (slice_set old t y) u = λ u less. ap (λ l. slice_get l u) is ∙ append_low (slice_set old t y) extra u (omega (arith, set, less)) in
+    let low : (u : ℕ) → u < length old → slice_get new u ≡ slice_get (slice_set old t y) u =
+    λ u less. ap (λ l. slice_get l u) is ∙ append_low (slice_set old t y) extra u (omega (arith, set, less)) in
     record {
       here = low t lt ∙ get_set_here old t y lt;
       there = λ u other less. low u less ∙ set_else old t y u other;
-      behind = λ k. ap (λ l. slice_get l (length old + k)) is ∙ (ap (λ j. slice_get (slice_set old t y ++ extra) (j + k)) (sym set) ∙ append_high (slice_set old t y) extra k);
+      behind = λ k. ap (λ l. slice_get l (length old + k)) is
+          ∙ (ap (λ j. slice_get (slice_set old t y ++ extra) (j + k)) (sym set) ∙ append_high (slice_set old t y) extra k);
       size = ap length is ∙ (length-append (slice_set old t y) extra ∙ ap (λ j. j + length extra) set);
     }
 
 -- where the added seats wait for nothing, and the changed one doesn't, nobody has gone to wait
-pub changed_frees : (old : List Seat) (t : ℕ) (y : Seat) (extra new : List Seat) → Changed old t y extra new → y.waits ≡ None → ((k : ℕ) → waits_in (slice_get extra k) ≡ None) → t < length old → Freed old new t
+pub changed_frees : (old : List Seat) (t : ℕ) (y : Seat) (extra new : List Seat) → Changed old t y extra new → y.waits ≡ None
+    → ((k : ℕ) → waits_in (slice_get extra k) ≡ None) → t < length old → Freed old new t
 changed_frees old t y extra new c wa quiet lt =
     record {
       went = λ w other. elim (low_or_high w (length old)) [
@@ -51,7 +55,8 @@ changed_frees old t y extra new c wa quiet lt =
     }
 
 -- parents stay
-pub changed_parents : (old : List Seat) (t : ℕ) (s y : Seat) (extra new : List Seat) → Changed old t y extra new → slice_get old t ≡ Some s → y.parent ≡ s.parent → (c p : ℕ) → parent_at old c ≡ Some p → parent_at new c ≡ Some p
+pub changed_parents : (old : List Seat) (t : ℕ) (s y : Seat) (extra new : List Seat) → Changed old t y extra new → slice_get old t ≡ Some s
+    → y.parent ≡ s.parent → (c p : ℕ) → parent_at old c ≡ Some p → parent_at new c ≡ Some p
 changed_parents old t s y extra new k at pa c p is =
     elim (same_or_not c t) [
       | inl same ↦ (ap (parent_at new) same ∙ (ap parent_in k.here ∙ (pa ∙ (sym (ap parent_in at) ∙ (sym (ap (parent_at old) same) ∙ is)))))
@@ -82,7 +87,8 @@ pub record Acts (P : tree.Program) (m n : Machine) (e : Event) (step : IsStep P 
   pub begins : length extra ≡ length (child_of P step.task e.action)
   pub quiet : (k : ℕ) → waits_in (slice_get extra k) ≡ None
 
-module _ (P : tree.Program) (h : List Event) (m n : Machine) (e : Event) (step : IsStep P m e n) (l : Leads P (opening P) h m) (seats new : List Seat) (a : AreSeated P m seats) (s y : Seat) (extra : List Seat)
+module _ (P : tree.Program) (h : List Event) (m n : Machine) (e : Event) (step : IsStep P m e n) (l : Leads P (opening P) h m) (seats new : List Seat)
+    (a : AreSeated P m seats) (s y : Seat) (extra : List Seat)
     (at : slice_get seats e.task ≡ Some s) (free : waits_for seats e.task ≡ None) (x : Acts P m n e step seats new s y extra) where
   kit : Changed seats e.task y extra new
   kit = changed seats e.task s y extra new at x.is
@@ -94,7 +100,8 @@ module _ (P : tree.Program) (h : List Event) (m n : Machine) (e : Event) (step :
   freed_now = changed_frees seats e.task y extra new kit x.waits x.quiet lies
 
   pub ended_same : (u : ℕ) → ended_with n u ≡ ended_with m u
-  ended_same u = elim (same_or_not u e.task) [ inl same ↦ ap (ended_with n) same ∙ (x.same ∙ sym (ap (ended_with m) same)) | inr other ↦ ended_else P m e n step u other ]
+  ended_same u =
+      elim (same_or_not u e.task) [ inl same ↦ ap (ended_with n) same ∙ (x.same ∙ sym (ap (ended_with m) same)) | inr other ↦ ended_else P m e n step u other ]
 
   pub shift : Shift m n seats new
   shift =
@@ -133,7 +140,9 @@ module _ (P : tree.Program) (h : List Event) (m n : Machine) (e : Event) (step :
           absurd (omega (arith, lt))
 
   -- the seats after such a step, where those of the tasks that begin are right
-  pub acts_on : ((k : ℕ) (q : Running) (z : Seat) → slice_get (child_of P step.task e.action) k ≡ Some q → slice_get extra k ≡ Some z → IsSeat P n new (length m.tasks + k) q z) → length n.tasks ≡ length m.tasks + length (child_of P step.task e.action) → AreSeated P n new
+  pub acts_on :
+      ((k : ℕ) (q : Running) (z : Seat) → slice_get (child_of P step.task e.action) k ≡ Some q → slice_get extra k ≡ Some z
+      → IsSeat P n new (length m.tasks + k) q z) → length n.tasks ≡ length m.tasks + length (child_of P step.task e.action) → AreSeated P n new
   acts_on fresh more =
       record {
         size = (let one = kit.size in let two = a.size in let three = x.begins in omega (arith, one, two, three, more));
@@ -159,7 +168,8 @@ module _ (P : tree.Program) (h : List Event) (m n : Machine) (e : Event) (step :
                 (λ run. went u (values_are P m seats a u ∙ (ap (λ o. option_and_then (λ (r : Running). r.value) o) old.1 ∙ run))))
             | inr new_one ↦ (
                 let size = a.size in
-                let here : slice_get extra new_one.0 ≡ Some z = sym (kit.behind new_one.0) ∙ (ap (λ j. slice_get new (j + new_one.0)) size ∙ (sym (ap (slice_get new) new_one.1) ∙ seat)) in
+                let here : slice_get extra new_one.0 ≡ Some z =
+                sym (kit.behind new_one.0) ∙ (ap (λ j. slice_get new (j + new_one.0)) size ∙ (sym (ap (slice_get new) new_one.1) ∙ seat)) in
                 subst (λ v. IsSeat P n new v q z) (sym new_one.1) (fresh new_one.0 q z new_one.2 here))
           ]
         ];

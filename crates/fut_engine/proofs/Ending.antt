@@ -14,12 +14,15 @@ use Rattle.task_machine.proofs.Places.{get_below}
 use Rattle.strand_laws.proofs.Places.{same_or_not, among_or, among_left, among_right}
 use Rattle.run_replay.proofs.Lining.{set_length, get_set_here}
 use Rattle.fut_engine.specs.declared.seat.Seat.{Seat}
-use Rattle.fut_engine.specs.Seats.{value_at, parent_at, went_for, waits_by, waits_for, while_any, while_none, waiters_of, put_in, told, joined, left_to_join, Tells, TellsParent, SettlesEnd}
+use Rattle.fut_engine.specs.Seats.{value_at, parent_at, went_for, waits_by, waits_for, while_any, while_none}
+use Rattle.fut_engine.specs.Seats.{waiters_of, put_in, told, joined, left_to_join, Tells, TellsParent, SettlesEnd}
 use Rattle.fut_engine.specs.Turns.{Waits, IsWoken}
 use Rattle.fut_engine.specs.Wholes.{unended, sitter, IsSeat, AreSeated}
 use Rattle.fut_engine.proofs.Lists.{some_same, set_else}
-use Rattle.fut_engine.proofs.Steps.{places, ended_else, ended_own, ran, unended_same, unended_less, all_ended, none_unended, sync_needs, sync_may, get_needs, get_may}
-use Rattle.fut_engine.proofs.Seating.{waits_in, parent_in, waiting_in, free_by, free_sits, free_went, seat_of, task_of, values_are, Shift, Freed, same_went, stays, ends}
+use Rattle.fut_engine.proofs.Steps.{places, ended_else, ended_own, ran, unended_same, unended_less}
+use Rattle.fut_engine.proofs.Steps.{all_ended, none_unended, sync_needs, sync_may, get_needs, get_may}
+use Rattle.fut_engine.proofs.Seating.{waits_in, parent_in, waiting_in, free_by, free_sits, free_went}
+use Rattle.fut_engine.proofs.Seating.{seat_of, task_of, values_are, Shift, Freed, same_went, stays, ends}
 use Rattle.fut_engine.proofs.Changing.{Changed, changed, changed_parents, changed_frees}
 
 -- who waits for children, as their count falls by one
@@ -50,7 +53,8 @@ joined_is t (suc (suc k)) u (Some (Some f)) i = absurd i
 joins : (t count : ℕ) (w : Option (Option ℕ)) → count ≡ 1 → w ≡ Some None → option_to_list (joined count (sitter t count w)) ≡ t ∷ []
 joins t count w one is = ap (λ c. option_to_list (joined c (sitter t c w))) one ∙ ap (λ o. option_to_list (joined 1 (sitter t 1 o))) is
 
-first_of : (t count : ℕ) (w : Option (Option ℕ)) → (option_to_list (joined count (sitter t count w)) ≡ []) ⊎ (option_to_list (joined count (sitter t count w)) ≡ t ∷ [])
+first_of : (t count : ℕ) (w : Option (Option ℕ)) → (option_to_list (joined count (sitter t count w)) ≡ [])
+    ⊎ (option_to_list (joined count (sitter t count w)) ≡ t ∷ [])
 first_of t zero None = inl refl
 first_of t zero (Some None) = inl refl
 first_of t zero (Some (Some f)) = inl refl
@@ -85,7 +89,8 @@ pub no_one : (xs : List ℕ) → ((u : ℕ) → Among u xs → ⊥) → xs ≡ [
 no_one [] f = refl
 no_one (x ∷ xs) f = absurd (f x (inl refl))
 
-module _ (P : tree.Program) (h : List Event) (m n : Machine) (e : Event) (step : IsStep P m e n) (v : Value) (does : e.action ≡ Ends v) (l : Leads P (opening P) h m) (seats : List Seat) (a : AreSeated P m seats) (s : Seat)
+module _ (P : tree.Program) (h : List Event) (m n : Machine) (e : Event) (step : IsStep P m e n) (v : Value) (does : e.action ≡ Ends v)
+    (l : Leads P (opening P) h m) (seats : List Seat) (a : AreSeated P m seats) (s : Seat)
     (at : slice_get seats e.task ≡ Some s) (free : waits_for seats e.task ≡ None) where
   pub old : IsSeat P m seats e.task step.task s
   old = a.each e.task step.task s step.present at
@@ -130,7 +135,8 @@ module _ (P : tree.Program) (h : List Event) (m n : Machine) (e : Event) (step :
       let whole = ap (λ (z : Machine). length z.tasks) step.gives in
       omega (arith, sum, set, none, whole)
 
-  blocks : (p c : ℕ) (q : Running) → slice_get m.tasks p ≡ Some q → Among c q.block → ended_with n c ≡ None → (k : Running) × (slice_get n.tasks p ≡ Some k) × Among c k.block
+  blocks : (p c : ℕ) (q : Running) → slice_get m.tasks p ≡ Some q → Among c q.block → ended_with n c ≡ None
+      → (k : Running) × (slice_get n.tasks p ≡ Some k) × Among c k.block
   blocks p c q present among live =
       elim (same_or_not p e.task) [
         | inl same ↦ (
@@ -154,7 +160,8 @@ module _ (P : tree.Program) (h : List Event) (m n : Machine) (e : Event) (step :
       let live : value_at seats e.task ≡ None = values_are P m seats a e.task ∙ ran P m e n step in
       by u (slice_get seats u) refl went live
     where
-      by : (u : ℕ) (o : Option Seat) → slice_get seats u ≡ o → went_for seats u ≡ Some (Some e.task) → value_at seats e.task ≡ None → Waits seats u × IsAllowed P n u
+      by : (u : ℕ) (o : Option Seat) → slice_get seats u ≡ o → went_for seats u ≡ Some (Some e.task) → value_at seats e.task ≡ None
+          → Waits seats u × IsAllowed P n u
       by u None there went live = (let bad : None ≡ Some (Some e.task) = sym (ap waits_in there) ∙ went in cc)
       by u (Some z) there went live =
           let r = task_of P m seats a u z there in
@@ -165,13 +172,15 @@ module _ (P : tree.Program) (h : List Event) (m n : Machine) (e : Event) (step :
           )
 
   -- a task that waits and is woken waits for this one: as its parent, or for its value
-  wakes_waiter : (u : ℕ) → Waits seats u → IsAllowed P n u → (z : Seat) × (slice_get seats u ≡ Some z) × (((z.waits ≡ Some None) × (z.children.count ≡ 1) × (s.parent ≡ Some u)) ⊎ Among u s.awaited.waiters)
+  wakes_waiter : (u : ℕ) → Waits seats u → IsAllowed P n u → (z : Seat) × (slice_get seats u ≡ Some z)
+      × (((z.waits ≡ Some None) × (z.children.count ≡ 1) × (s.parent ≡ Some u)) ⊎ Among u s.awaited.waiters)
   wakes_waiter u (o, waits) may = by (slice_get seats u) refl
     where
       other : u ≡ e.task → ⊥
       other same = let bad : None ≡ Some o = sym free ∙ (sym (ap (waits_for seats) same) ∙ waits) in cc
 
-      by_kind : (z : Seat) (r : Running) → slice_get seats u ≡ Some z → slice_get m.tasks u ≡ Some r → IsSeat P m seats u r z → (k : Option ℕ) → waits_by seats z.children.count z.waits ≡ Some k
+      by_kind : (z : Seat) (r : Running) → slice_get seats u ≡ Some z → slice_get m.tasks u ≡ Some r → IsSeat P m seats u r z → (k : Option ℕ)
+          → waits_by seats z.children.count z.waits ≡ Some k
           → ((z.waits ≡ Some None) × (z.children.count ≡ 1) × (s.parent ≡ Some u)) ⊎ Among u s.awaited.waiters
       by_kind z r seat task x None waits =
           let is : z.waits ≡ Some None = waits_so seats z.children.count z.waits None waits in
@@ -185,11 +194,13 @@ module _ (P : tree.Program) (h : List Event) (m n : Machine) (e : Event) (step :
                   let mine : s.parent ≡ Some u = p.1 ∙ ap (λ k. Some k) same in
                   let held = old.held u mine step.running in
                   let own : held.0 ≡ r = some_same held.0 r (sym held.1 ∙ task) in
-                  let less = unended_less m n e.task v r.block (subst (λ (k : Running). Among e.task k.block) own held.2) x.once (ran P m e n step) has_ended (ended_else P m e n step) in
+                  let less = unended_less m n e.task v r.block (subst (λ (k : Running). Among e.task k.block) own held.2) x.once (ran P m e n step) has_ended
+                  (ended_else P m e n step) in
                   inl (is, omega (arith, less, none, count), mine))
               | inr differ ↦ absurd (let same = count_else u r task (λ k. differ (some_same p.0 u (sym p.1 ∙ k))) in omega (arith, same, none, count, some))
             ]
-            | inr orphan ↦ absurd (let same = count_else u r task (λ k. let bad : None ≡ Some u = sym orphan ∙ k in cc) in omega (arith, same, none, count, some))
+            | inr orphan ↦
+                absurd (let same = count_else u r task (λ k. let bad : None ≡ Some u = sym orphan ∙ k in cc) in omega (arith, same, none, count, some))
           ]
         where
           parent_or_not : (o : Option ℕ) → s.parent ≡ o → ((p : ℕ) × (s.parent ≡ Some p)) ⊎ (s.parent ≡ None)
@@ -201,10 +212,12 @@ module _ (P : tree.Program) (h : List Event) (m n : Machine) (e : Event) (step :
           let got = get_needs P n u r (others_stay P m e n u r step other task) f (x.wants (Some f) is) may in
           elim (same_or_not f e.task) [
             | inl same ↦ inr ((old.awaits u step.running).1 (ap waits_in seat ∙ (is ∙ ap (λ k. Some (Some k)) same)))
-            | inr differ ↦ absurd (let bad : None ≡ Some got.0 = sym (sym (values_are P m seats a f) ∙ none) ∙ (sym (ended_else P m e n step f differ) ∙ got.1) in cc)
+            | inr differ ↦
+                absurd (let bad : None ≡ Some got.0 = sym (sym (values_are P m seats a f) ∙ none) ∙ (sym (ended_else P m e n step f differ) ∙ got.1) in cc)
           ]
 
-      by : (k : Option Seat) → slice_get seats u ≡ k → (z : Seat) × (slice_get seats u ≡ Some z) × (((z.waits ≡ Some None) × (z.children.count ≡ 1) × (s.parent ≡ Some u)) ⊎ Among u s.awaited.waiters)
+      by : (k : Option Seat) → slice_get seats u ≡ k → (z : Seat) × (slice_get seats u ≡ Some z)
+          × (((z.waits ≡ Some None) × (z.children.count ≡ 1) × (s.parent ≡ Some u)) ⊎ Among u s.awaited.waiters)
       by None there = (let bad : None ≡ Some o = sym (ap (waiting_in seats) there) ∙ waits in cc)
       by (Some z) there =
           let r = task_of P m seats a u z there in
@@ -235,7 +248,8 @@ module _ (P : tree.Program) (h : List Event) (m n : Machine) (e : Event) (step :
                   let lt = get_below m.tasks u q kept.1 in
                   let before : slice_get seats u ≡ Some z = sym (k.there u kept.0 (omega (arith, two, lt))) ∙ seat in
                   let x = a.each u q z kept.1 before in
-                  stays P m n seats middle shift u q z z x refl refl refl (x.count ∙ sym (count_else u q kept.1 (λ p. let bad : None ≡ Some u = sym none ∙ p in cc))) x.waiter
+                  stays P m n seats middle shift u q z z x refl refl refl
+                  (x.count ∙ sym (count_else u q kept.1 (λ p. let bad : None ≡ Some u = sym none ∙ p in cc))) x.waiter
                   (λ run. (runs_on u q kept.0 kept.1 run).0) (λ run. same_went seats middle e.task s at free freed u (runs_on u q kept.0 kept.1 run).1))
               | inr born ↦ absurd (none_new born.0 q born.2)
             ]
@@ -250,7 +264,8 @@ module _ (P : tree.Program) (h : List Event) (m n : Machine) (e : Event) (step :
       back same = not_p (sym same)
 
       at_else : (w : ℕ) → (w ≡ e.task → ⊥) → (w ≡ p → ⊥) → slice_get new w ≡ slice_get seats w
-      at_else w one two = ap (λ z. slice_get z w) x.is ∙ (set_else (slice_set seats e.task (put_in v s)) p (told x.before) w two ∙ set_else seats e.task (put_in v s) w one)
+      at_else w one two = ap (λ z. slice_get z w) x.is
+          ∙ (set_else (slice_set seats e.task (put_in v s)) p (told x.before) w two ∙ set_else seats e.task (put_in v s) w one)
 
       seat_p : slice_get seats p ≡ Some x.before
       seat_p = sym (set_else seats e.task (put_in v s) p back) ∙ x.present
@@ -259,7 +274,8 @@ module _ (P : tree.Program) (h : List Event) (m n : Machine) (e : Event) (step :
       at_p = ap (λ z. slice_get z p) x.is ∙ get_set_here (slice_set seats e.task (put_in v s)) p (told x.before) (get_below _ p x.before x.present)
 
       at_t : slice_get new e.task ≡ Some (put_in v s)
-      at_t = ap (λ z. slice_get z e.task) x.is ∙ (set_else (slice_set seats e.task (put_in v s)) p (told x.before) e.task not_p ∙ get_set_here seats e.task (put_in v s) low)
+      at_t = ap (λ z. slice_get z e.task) x.is
+          ∙ (set_else (slice_set seats e.task (put_in v s)) p (told x.before) e.task not_p ∙ get_set_here seats e.task (put_in v s) low)
 
       freed : Freed seats new e.task
       freed =
@@ -292,7 +308,8 @@ module _ (P : tree.Program) (h : List Event) (m n : Machine) (e : Event) (step :
       less =
           let held = old.held p is_p step.running in
           let own : held.0 ≡ parent_of.0 = some_same held.0 parent_of.0 (sym held.1 ∙ parent_of.1) in
-          unended_less m n e.task v parent_of.0.block (subst (λ (k : Running). Among e.task k.block) own held.2) parent_of.2.once (ran P m e n step) has_ended (ended_else P m e n step)
+          unended_less m n e.task v parent_of.0.block (subst (λ (k : Running). Among e.task k.block) own held.2) parent_of.2.once (ran P m e n step) has_ended
+          (ended_else P m e n step)
 
       told_seat : IsSeat P n new p parent_of.0 (told x.before)
       told_seat =
@@ -301,7 +318,8 @@ module _ (P : tree.Program) (h : List Event) (m n : Machine) (e : Event) (step :
           let one = less in
           stays P m n seats new shift p parent_of.0 x.before (told x.before) y refl refl refl (omega (arith, count, one))
           (ap (left_to_join x.before.children.count) y.waiter ∙ left_is p x.before.children.count x.before.waits)
-          (λ run. (runs_on p parent_of.0 back parent_of.1 run).0) (λ run. same_went seats new e.task s at free freed p (runs_on p parent_of.0 back parent_of.1 run).1)
+          (λ run. (runs_on p parent_of.0 back parent_of.1 run).0)
+          (λ run. same_went seats new e.task s at free freed p (runs_on p parent_of.0 back parent_of.1 run).1)
 
       length_new : length new ≡ length seats
       length_new = ap length x.is ∙ (set_length (slice_set seats e.task (put_in v s)) p (told x.before) ∙ set_length seats e.task (put_in v s))
@@ -323,11 +341,13 @@ module _ (P : tree.Program) (h : List Event) (m n : Machine) (e : Event) (step :
                   | inl same ↦ (
                       let this : parent_of.0 ≡ q = some_same parent_of.0 q (sym parent_of.1 ∙ (ap (slice_get m.tasks) (sym same) ∙ kept.1)) in
                       let that : told x.before ≡ z = some_same (told x.before) z (sym at_p ∙ (ap (slice_get new) (sym same) ∙ seat)) in
-                      subst (λ w. IsSeat P n new w q z) (sym same) (subst (λ w. IsSeat P n new p w z) this (subst (λ w. IsSeat P n new p parent_of.0 w) that told_seat)))
+                      subst (λ w. IsSeat P n new w q z) (sym same)
+                      (subst (λ w. IsSeat P n new p w z) this (subst (λ w. IsSeat P n new p parent_of.0 w) that told_seat)))
                   | inr differ ↦ (
                       let before : slice_get seats u ≡ Some z = sym (at_else u kept.0 differ) ∙ seat in
                       let y = a.each u q z kept.1 before in
-                      stays P m n seats new shift u q z z y refl refl refl (y.count ∙ sym (count_else u q kept.1 (λ k. differ (some_same u p (sym k ∙ is_p))))) y.waiter
+                      stays P m n seats new shift u q z z y refl refl refl
+                      (y.count ∙ sym (count_else u q kept.1 (λ k. differ (some_same u p (sym k ∙ is_p))))) y.waiter
                       (λ run. (runs_on u q kept.0 kept.1 run).0) (λ run. same_went seats new e.task s at free freed u (runs_on u q kept.0 kept.1 run).1))
                 ]
                 | inr born ↦ absurd (none_new born.0 q born.2)
@@ -355,7 +375,9 @@ module _ (P : tree.Program) (h : List Event) (m n : Machine) (e : Event) (step :
       parent_among u z seat is one mine =
           let same : u ≡ p = some_same u p (sym mine ∙ is_p) in
           let this : z ≡ x.before = some_same z x.before (sym seat ∙ (ap (slice_get seats) same ∙ seat_p)) in
-          let all : first ≡ p ∷ [] = first_is ∙ joins p x.before.children.count x.before.waits (ap (λ (k : Seat). k.children.count) (sym this) ∙ one) (ap (λ (k : Seat). k.waits) (sym this) ∙ is) in
+          let all : first ≡ p ∷ [] =
+          first_is ∙ joins p x.before.children.count x.before.waits (ap (λ (k : Seat). k.children.count) (sym this) ∙ one)
+          (ap (λ (k : Seat). k.waits) (sym this) ∙ is) in
           subst (Among u) (sym all) (inl (sym same))
 
     -- what an end does

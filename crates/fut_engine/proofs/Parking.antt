@@ -30,7 +30,8 @@ some_any zero lt = absurd (omega (arith, lt))
 some_any (suc n) lt = refl
 
 -- what a task waits for stays, where the values do
-waits_by_same : (seats new : List Seat) → ((f : ℕ) → value_at new f ≡ value_at seats f) → (count : ℕ) (w : Option (Option ℕ)) → waits_by new count w ≡ waits_by seats count w
+waits_by_same : (seats new : List Seat) → ((f : ℕ) → value_at new f ≡ value_at seats f) → (count : ℕ) (w : Option (Option ℕ))
+    → waits_by new count w ≡ waits_by seats count w
 waits_by_same seats new same count None = refl
 waits_by_same seats new same count (Some None) = refl
 waits_by_same seats new same count (Some (Some f)) = ap (while_none f) (same f)
@@ -45,7 +46,8 @@ pub record Parked (P : tree.Program) (m : Machine) (seats new : List Seat) (t : 
   pub waits : waits_for new t ≡ Some o
   pub others : (u : ℕ) → (u ≡ t → ⊥) → waits_for new u ≡ waits_for seats u
 
-module _ (P : tree.Program) (h : List Event) (m : Machine) (l : Leads P (opening P) h m) (seats : List Seat) (a : AreSeated P m seats) (t : ℕ) (r : Running) (present : slice_get m.tasks t ≡ Some r) (s : Seat)
+module _ (P : tree.Program) (h : List Event) (m : Machine) (l : Leads P (opening P) h m) (seats : List Seat) (a : AreSeated P m seats) (t : ℕ) (r : Running)
+    (present : slice_get m.tasks t ≡ Some r) (s : Seat)
     (at : slice_get seats t ≡ Some s) (free : waits_for seats t ≡ None) where
   old : IsSeat P m seats t r s
   old = a.each t r s present at
@@ -76,8 +78,10 @@ module _ (P : tree.Program) (h : List Event) (m : Machine) (l : Leads P (opening
       (s, q.0, at, q.1, sym (ap value_in q.1) ∙ live_future f w (ended_with m f) refl)
 
   module _ (new : List Seat) where
-    parked_seat : ((c p : ℕ) → parent_at seats c ≡ Some p → parent_at new c ≡ Some p) → (u : ℕ) (q : Running) (z y : Seat) → IsSeat P m seats u q z → y.parent ≡ z.parent → y.children.count ≡ z.children.count → y.awaited.value ≡ z.awaited.value
-        → ((o : Option ℕ) → y.waits ≡ Some o → Wants P q o) → y.children.waiter ≡ sitter u y.children.count y.waits → ((w : ℕ) → q.value ≡ None → Among w y.awaited.waiters ↔ (went_for new w ≡ Some (Some u))) → IsOnce y.awaited.waiters → IsSeat P m new u q y
+    parked_seat : ((c p : ℕ) → parent_at seats c ≡ Some p → parent_at new c ≡ Some p) → (u : ℕ) (q : Running) (z y : Seat) → IsSeat P m seats u q z
+        → y.parent ≡ z.parent → y.children.count ≡ z.children.count → y.awaited.value ≡ z.awaited.value
+        → ((o : Option ℕ) → y.waits ≡ Some o → Wants P q o) → y.children.waiter ≡ sitter u y.children.count y.waits
+        → ((w : ℕ) → q.value ≡ None → Among w y.awaited.waiters ↔ (went_for new w ≡ Some (Some u))) → IsOnce y.awaited.waiters → IsSeat P m new u q y
     parked_seat parents u q z y x pa cn va wants wt awaits once =
         record {
           value = va ∙ x.value;
@@ -126,7 +130,8 @@ module _ (P : tree.Program) (h : List Event) (m : Machine) (l : Leads P (opening
             | inr other ↦ ((λ e. sym (ap waits_in (sat_else v other)) ∙ e), (λ e. ap waits_in (sat_else v other) ∙ e))
           ]
 
-      sat_awaits : (u : ℕ) (q : Running) (z : Seat) → slice_get seats u ≡ Some z → IsSeat P m seats u q z → (v : ℕ) → q.value ≡ None → Among v z.awaited.waiters ↔ (went_for new v ≡ Some (Some u))
+      sat_awaits : (u : ℕ) (q : Running) (z : Seat) → slice_get seats u ≡ Some z → IsSeat P m seats u q z → (v : ℕ) → q.value ≡ None
+          → Among v z.awaited.waiters ↔ (went_for new v ≡ Some (Some u))
       sat_awaits u q z there x v run =
           let k = sat_went u (ap value_in there ∙ (x.value ∙ run)) v in
           ((λ i. k.1 ((x.awaits v run).0 i)), (λ e. (x.awaits v run).1 (k.0 e)))
@@ -189,7 +194,8 @@ module _ (P : tree.Program) (h : List Event) (m : Machine) (l : Leads P (opening
         same : (u ≡ f → ⊥) → k.awaited.waiters ≡ z.awaited.waiters
         more : u ≡ f → k.awaited.waiters ≡ z.awaited.waiters ++ t ∷ []
 
-      turned_middle : (u : ℕ) (z : Seat) → slice_get seats u ≡ Some z → (k : Seat) × (slice_get middle u ≡ Some k) × (k.parent ≡ z.parent) × (k.children.count ≡ z.children.count) × (k.children.waiter ≡ z.children.waiter) × (k.awaited.value ≡ z.awaited.value) × (k.waits ≡ z.waits)
+      turned_middle : (u : ℕ) (z : Seat) → slice_get seats u ≡ Some z → (k : Seat) × (slice_get middle u ≡ Some k) × (k.parent ≡ z.parent)
+          × (k.children.count ≡ z.children.count) × (k.children.waiter ≡ z.children.waiter) × (k.awaited.value ≡ z.awaited.value) × (k.waits ≡ z.waits)
           × ((u ≡ f → ⊥) → k.awaited.waiters ≡ z.awaited.waiters) × (u ≡ f → k.awaited.waiters ≡ z.awaited.waiters ++ t ∷ [])
       turned_middle u z there =
           elim (same_or_not u f) [
@@ -227,7 +233,11 @@ module _ (P : tree.Program) (h : List Event) (m : Machine) (l : Leads P (opening
                     more = λ e. ap (λ (j : Seat). j.awaited.waiters) this ∙ more e;
                   },
                 ))
-            | inr other ↦ (k, gone_else u other ∙ mid, record { parent = pa; count = cn; sitting = wt; value = va; waits = λ _. ws; goes = λ own. absurd (other own); same = same; more = more })
+            | inr other ↦ (
+              k,
+              gone_else u other ∙ mid,
+              record { parent = pa; count = cn; sitting = wt; value = va; waits = λ _. ws; goes = λ own. absurd (other own); same = same; more = more },
+            )
           ]
 
       none_there : (u : ℕ) → slice_get seats u ≡ None → slice_get new u ≡ None
@@ -257,13 +267,15 @@ module _ (P : tree.Program) (h : List Event) (m : Machine) (l : Leads P (opening
       gone_went u differ live v =
           elim (same_or_not v t) [
             | inl same ↦ (
-              (λ e. absurd (let both : Some (Some f) ≡ Some (Some u) = sym went_own ∙ (sym (ap (went_for new) same) ∙ e) in let bad : f ≡ u = cc in differ (sym bad))),
+              (λ e. absurd
+                  (let both : Some (Some f) ≡ Some (Some u) = sym went_own ∙ (sym (ap (went_for new) same) ∙ e) in let bad : f ≡ u = cc in differ (sym bad))),
               (λ e. absurd (free_went seats t s at free u live (sym (ap (went_for seats) same) ∙ e))),
             )
             | inr other ↦ ((λ e. sym (went_else v other (slice_get seats v) refl) ∙ e), (λ e. went_else v other (slice_get seats v) refl ∙ e))
           ]
 
-      gone_awaits : (u : ℕ) (q : Running) (z k : Seat) → slice_get seats u ≡ Some z → IsSeat P m seats u q z → Turned u z k → (v : ℕ) → q.value ≡ None → Among v k.awaited.waiters ↔ (went_for new v ≡ Some (Some u))
+      gone_awaits : (u : ℕ) (q : Running) (z k : Seat) → slice_get seats u ≡ Some z → IsSeat P m seats u q z → Turned u z k → (v : ℕ) → q.value ≡ None
+          → Among v k.awaited.waiters ↔ (went_for new v ≡ Some (Some u))
       gone_awaits u q z k there j c v run =
           elim (same_or_not u f) [
             | inl same ↦ (
@@ -294,11 +306,13 @@ module _ (P : tree.Program) (h : List Event) (m : Machine) (l : Leads P (opening
           elim (same_or_not u f) [
             | inl same ↦ (
                 let run : q.value ≡ None = sym (j.value) ∙ (sym (ap value_in there) ∙ (ap (value_at seats) same ∙ none)) in
-                subst IsOnce (sym (c.more same)) (once_snoc z.awaited.waiters t j.each_once (λ i. free_went seats t s at free f none ((j.awaits t run).0 i ∙ ap (λ n. Some (Some n)) same))))
+                subst IsOnce (sym (c.more same))
+                (once_snoc z.awaited.waiters t j.each_once (λ i. free_went seats t s at free f none ((j.awaits t run).0 i ∙ ap (λ n. Some (Some n)) same))))
             | inr differ ↦ subst IsOnce (sym (c.same differ)) j.each_once
           ]
 
-      gone_wants : (u : ℕ) (q : Running) (z k : Seat) → slice_get m.tasks u ≡ Some q → IsSeat P m seats u q z → Turned u z k → (o : Option ℕ) → k.waits ≡ Some o → Wants P q o
+      gone_wants : (u : ℕ) (q : Running) (z k : Seat) → slice_get m.tasks u ≡ Some q → IsSeat P m seats u q z → Turned u z k → (o : Option ℕ)
+          → k.waits ≡ Some o → Wants P q o
       gone_wants u q z k there j c o is =
           elim (same_or_not u t) [
             | inl own ↦ (
@@ -308,7 +322,8 @@ module _ (P : tree.Program) (h : List Event) (m : Machine) (l : Leads P (opening
             | inr other ↦ j.wants o (sym (c.waits other) ∙ is)
           ]
 
-      gone_sits : (u : ℕ) (q : Running) (z k : Seat) → slice_get seats u ≡ Some z → IsSeat P m seats u q z → Turned u z k → k.children.waiter ≡ sitter u k.children.count k.waits
+      gone_sits : (u : ℕ) (q : Running) (z k : Seat) → slice_get seats u ≡ Some z → IsSeat P m seats u q z → Turned u z k
+          → k.children.waiter ≡ sitter u k.children.count k.waits
       gone_sits u q z k there j c =
           elim (same_or_not u t) [
             | inl own ↦ (
@@ -327,7 +342,8 @@ module _ (P : tree.Program) (h : List Event) (m : Machine) (l : Leads P (opening
                   let c = turned u z.0 z.1 in
                   let same : c.0 ≡ k = some_same c.0 k (sym c.1 ∙ seat) in
                   subst (λ j. IsSeat P m new u q j) same
-                  (parked_seat gone_parents u q z.0 c.0 z.2 c.2.parent c.2.count c.2.value (gone_wants u q z.0 c.0 there z.2 c.2) (gone_sits u q z.0 c.0 z.1 z.2 c.2) (gone_awaits u q z.0 c.0 z.1 z.2 c.2) (gone_once u q z.0 c.0 z.1 z.2 c.2)));
+                  (parked_seat gone_parents u q z.0 c.0 z.2 c.2.parent c.2.count c.2.value (gone_wants u q z.0 c.0 there z.2 c.2)
+                  (gone_sits u q z.0 c.0 z.1 z.2 c.2) (gone_awaits u q z.0 c.0 z.1 z.2 c.2) (gone_once u q z.0 c.0 z.1 z.2 c.2)));
             };
             waits = ap (waiting_in new) gone ∙ ap (while_none f) (gone_values f (slice_get seats f) refl ∙ none);
             others = λ u other. by u other (slice_get seats u) refl;
@@ -341,7 +357,11 @@ module _ (P : tree.Program) (h : List Event) (m : Machine) (l : Leads P (opening
           by u other (Some z) is =
               let k = turned u z is in
               ap (waiting_in new) k.1
-              ∙ (ap (λ n. waits_by new n k.0.waits) k.2.count ∙ (ap (waits_by new z.children.count) (k.2.waits other) ∙ (waits_by_same seats new all_values z.children.count z.waits ∙ sym (ap (waiting_in seats) is))))
+              ∙
+              (ap (λ n. waits_by new n k.0.waits) k.2.count
+              ∙
+              (ap (waits_by new z.children.count) (k.2.waits other) ∙
+              (waits_by_same seats new all_values z.children.count z.waits ∙ sym (ap (waiting_in seats) is))))
 
     -- what parking did
     pub parked : (o : Option ℕ) → IsWaiting P m t o → Parks seats t o new → Parked P m seats new t o

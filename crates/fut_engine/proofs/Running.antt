@@ -16,6 +16,15 @@ ends_of P limits h m (finish.Events b) (t, r, first, spent) = (t, spent)
 ends_of P limits h m (finish.Local u) (t, r, first, spent) = (t, spent)
 ends_of P limits h m (finish.Futures u) (t, r, first, spent) = (t, spent)
 
-pub serial_is_run : (P : tree.Program) (limits : Limits) (h : List Event) (f : Finish) (cells : List ℤ) → IsSerialRun P limits h f cells → IsRun P limits h f cells
+pub serial_is_run : (P : tree.Program) (limits : Limits) (h : List Event) (f : Finish) (cells : List ℤ) → IsSerialRun P limits h f cells
+    → IsRun P limits h f cells
 serial_is_run P limits h f cells s =
-    record { machine = s.machine; leads = s.leads; few = s.few; creates_few = s.creates_few; ends = ends_of P limits h s.machine f s.stops; holds = s.holds; cells_are = s.cells_are }
+    record {
+      machine = s.machine;
+      leads = s.leads;
+      few = s.few;
+      creates_few = s.creates_few;
+      ends = ends_of P limits h s.machine f s.stops;
+      holds = s.holds;
+      cells_are = s.cells_are;
+    }

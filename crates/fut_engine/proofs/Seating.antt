@@ -82,7 +82,8 @@ module _ (P : tree.Program) (m : Machine) (seats : List Seat) (a : AreSeated P m
 -- parents are kept, and a task that has not ended stays in the block of its parent
 pub record Shift (m n : Machine) (seats new : List Seat) : Type 0 where
   pub parents : (c p : ℕ) → parent_at seats c ≡ Some p → parent_at new c ≡ Some p
-  pub blocks : (p c : ℕ) (q : Running) → slice_get m.tasks p ≡ Some q → Among c q.block → ended_with n c ≡ None → (k : Running) × (slice_get n.tasks p ≡ Some k) × Among c k.block
+  pub blocks : (p c : ℕ) (q : Running) → slice_get m.tasks p ≡ Some q → Among c q.block → ended_with n c ≡ None
+      → (k : Running) × (slice_get n.tasks p ≡ Some k) × Among c k.block
 
 abbrev pub SameWent : List Seat → List Seat → ℕ → Type 0
 SameWent seats new u = (w : ℕ) → (went_for new w ≡ Some (Some u)) ↔ (went_for seats w ≡ Some (Some u))
@@ -92,7 +93,8 @@ pub record Freed (seats new : List Seat) (t : ℕ) : Type 0 where
   pub went : (w : ℕ) → (w ≡ t → ⊥) → went_for new w ≡ went_for seats w
   pub gone : went_for new t ≡ None
 
-pub same_went : (seats new : List Seat) (t : ℕ) (s : Seat) → slice_get seats t ≡ Some s → waits_for seats t ≡ None → Freed seats new t → (u : ℕ) → value_at seats u ≡ None → SameWent seats new u
+pub same_went : (seats new : List Seat) (t : ℕ) (s : Seat) → slice_get seats t ≡ Some s → waits_for seats t ≡ None → Freed seats new t → (u : ℕ)
+    → value_at seats u ≡ None → SameWent seats new u
 same_went seats new t s at free k u none w =
     elim (same_or_not w t) [
       | inl same ↦ (
@@ -106,8 +108,10 @@ same_went seats new t s at free k u none w =
     ]
 
 module _ (P : tree.Program) (m n : Machine) (seats new : List Seat) (k : Shift m n seats new) (u : ℕ) where
-  pub stays : (q : Running) (z y : Seat) → IsSeat P m seats u q z → y.parent ≡ z.parent → y.awaited ≡ z.awaited → y.waits ≡ z.waits → y.children.count ≡ unended n q.block
-      → y.children.waiter ≡ sitter u y.children.count y.waits → (q.value ≡ None → ended_with n u ≡ None) → (q.value ≡ None → SameWent seats new u) → IsSeat P n new u q y
+  pub stays : (q : Running) (z y : Seat) → IsSeat P m seats u q z → y.parent ≡ z.parent → y.awaited ≡ z.awaited → y.waits ≡ z.waits
+      → y.children.count ≡ unended n q.block
+      → y.children.waiter ≡ sitter u y.children.count y.waits → (q.value ≡ None → ended_with n u ≡ None) → (q.value ≡ None → SameWent seats new u)
+      → IsSeat P n new u q y
   stays q z y x pa aw wa cnt wt live went =
       record {
         value = ap (λ a. a.value) aw ∙ x.value;
@@ -127,8 +131,10 @@ module _ (P : tree.Program) (m n : Machine) (seats new : List Seat) (k : Shift m
       }
 
   -- the task that acts, and does not end
-  pub acts : (r q : Running) (z y : Seat) → IsSeat P m seats u r z → y.parent ≡ z.parent → y.awaited ≡ z.awaited → y.waits ≡ None → y.children.waiter ≡ None → r.value ≡ None → q.value ≡ None → q.future ≡ r.future
-      → y.children.count ≡ unended n q.block → IsOnce q.block → ((c : ℕ) → Among c q.block → parent_at new c ≡ Some u) → ended_with n u ≡ None → SameWent seats new u → IsSeat P n new u q y
+  pub acts : (r q : Running) (z y : Seat) → IsSeat P m seats u r z → y.parent ≡ z.parent → y.awaited ≡ z.awaited → y.waits ≡ None → y.children.waiter ≡ None
+      → r.value ≡ None → q.value ≡ None → q.future ≡ r.future
+      → y.children.count ≡ unended n q.block → IsOnce q.block → ((c : ℕ) → Among c q.block → parent_at new c ≡ Some u) → ended_with n u ≡ None
+      → SameWent seats new u → IsSeat P n new u q y
   acts r q z y x pa aw wa wt run still fut cnt once own live went =
       record {
         value = ap (λ a. a.value) aw ∙ (x.value ∙ (run ∙ sym still));
@@ -148,7 +154,8 @@ module _ (P : tree.Program) (m n : Machine) (seats new : List Seat) (k : Shift m
       }
 
   -- the task that ends
-  pub ends : (r q : Running) (v : Value) (z : Seat) → IsSeat P m seats u r z → z.children.waiter ≡ None → q.value ≡ Some v → q.future ≡ r.future → q.block ≡ r.block → unended n q.block ≡ unended m r.block → IsSeat P n new u q (put_in v z)
+  pub ends : (r q : Running) (v : Value) (z : Seat) → IsSeat P m seats u r z → z.children.waiter ≡ None → q.value ≡ Some v → q.future ≡ r.future
+      → q.block ≡ r.block → unended n q.block ≡ unended m r.block → IsSeat P n new u q (put_in v z)
   ends r q v z x wt ended fut block cnt =
       record {
         value = sym ended;
@@ -165,7 +172,8 @@ module _ (P : tree.Program) (m n : Machine) (seats new : List Seat) (k : Shift m
       }
 
   -- a task that begins
-  pub newborn : (q : Running) (parent : Option ℕ) → q.value ≡ None → q.block ≡ [] → q.future ≤ u → ((p : ℕ) → parent ≡ Some p → (p < u) × (q.future < u) × ((z : Running) × (slice_get n.tasks p ≡ Some z) × Among u z.block))
+  pub newborn : (q : Running) (parent : Option ℕ) → q.value ≡ None → q.block ≡ [] → q.future ≤ u
+      → ((p : ℕ) → parent ≡ Some p → (p < u) × (q.future < u) × ((z : Running) × (slice_get n.tasks p ≡ Some z) × Among u z.block))
       → ((w : ℕ) → went_for new w ≡ Some (Some u) → ⊥) → IsSeat P n new u q (new_seat parent)
   newborn q parent run block fut child went =
       record {

@@ -39,14 +39,18 @@ child_fresh P r (Ends _) k q h = cc
 module _ (P : tree.Program) (m : Machine) (e : Event) (n : Machine) (step : IsStep P m e n) where
   -- a task after the step is the one that acted, an older one, or a new one
   pub places : (u : ℕ) (q : Running) → slice_get n.tasks u ≡ Some q
-      → ((u ≡ e.task) × (acted step.task step.stop e.action ≡ q)) ⊎ (((u ≡ e.task → ⊥) × (slice_get m.tasks u ≡ Some q)) ⊎ Behind m.tasks (child_of P step.task e.action) u q)
+      → ((u ≡ e.task) × (acted step.task step.stop e.action ≡ q))
+      ⊎ (((u ≡ e.task → ⊥) × (slice_get m.tasks u ≡ Some q)) ⊎ Behind m.tasks (child_of P step.task e.action) u q)
   places u q h =
       elim (same_or_not u e.task) [
-        | inl same ↦ inl (same, some_same (acted step.task step.stop e.action) q (sym (acting_task P m e n step) ∙ subst (λ k. slice_get n.tasks k ≡ Some q) same h))
-        | inr other ↦ elim (get_set_append m.tasks (child_of P step.task e.action) e.task (acted step.task step.stop e.action) u q (subst (λ (z : Machine). slice_get z.tasks u ≡ Some q) step.gives h)) [
-          | inl own ↦ absurd (other own.0)
-          | inr x ↦ elim x [ inl old ↦ inr (inl (other, old)) | inr new ↦ inr (inr new) ]
-        ]
+        | inl same ↦
+            inl (same, some_same (acted step.task step.stop e.action) q (sym (acting_task P m e n step) ∙ subst (λ k. slice_get n.tasks k ≡ Some q) same h))
+        | inr other ↦
+            elim (get_set_append m.tasks (child_of P step.task e.action) e.task (acted step.task step.stop e.action) u q
+            (subst (λ (z : Machine). slice_get z.tasks u ≡ Some q) step.gives h)) [
+              | inl own ↦ absurd (other own.0)
+              | inr x ↦ elim x [ inl old ↦ inr (inl (other, old)) | inr new ↦ inr (inr new) ]
+            ]
       ]
 
   none_new : (u : ℕ) → (u ≡ e.task → ⊥) → slice_get m.tasks u ≡ None → (o : Option Running) → slice_get n.tasks u ≡ o → ended_with n u ≡ None
@@ -83,7 +87,8 @@ unended_same m n (c ∷ cs) f =
     let rest = unended_same m n cs (λ d i. f d (inr i)) in
     omega (arith, head, rest)
 
-pub unended_less : (m n : Machine) (t : ℕ) (v : Value) (cs : List ℕ) → Among t cs → IsOnce cs → ended_with m t ≡ None → ended_with n t ≡ Some v → ((c : ℕ) → (c ≡ t → ⊥) → ended_with n c ≡ ended_with m c) → unended n cs + 1 ≡ unended m cs
+pub unended_less : (m n : Machine) (t : ℕ) (v : Value) (cs : List ℕ) → Among t cs → IsOnce cs → ended_with m t ≡ None → ended_with n t ≡ Some v
+    → ((c : ℕ) → (c ≡ t → ⊥) → ended_with n c ≡ ended_with m c) → unended n cs + 1 ≡ unended m cs
 unended_less m n t v [] a once none some f = absurd a
 unended_less m n t v (c ∷ cs) (inl same) once none some f =
     let rest = unended_same m n cs (λ d i. f d (λ e. once.0 (subst (λ z. Among z cs) (e ∙ sym same) i))) in
@@ -129,7 +134,8 @@ syncs_when m r w (Creates _ _ _ _ _) is answers may = cc
 syncs_when m r w (Gets _ _ _) is answers may = cc
 syncs_when m r w (Ends _) is answers may = cc
 
-gets_when : (m : Machine) (r : Running) (w : Wish) (a : Action) (future : ℕ) → w ≡ ToGet future → Answers w a → Permits m r a → (v : Value) × (ended_with m future ≡ Some v)
+gets_when : (m : Machine) (r : Running) (w : Wish) (a : Action) (future : ℕ) → w ≡ ToGet future → Answers w a → Permits m r a
+    → (v : Value) × (ended_with m future ≡ Some v)
 gets_when m r w (Gets f value strand) future is answers may =
     (value, (let e : ToGet f ≡ ToGet future = sym answers ∙ is in let same : f ≡ future = cc in subst (λ k. ended_with m k ≡ Some value) same may.1))
 gets_when m r w (Reads _ _) future is answers may = cc
@@ -143,8 +149,11 @@ module _ (P : tree.Program) (m : Machine) (t : ℕ) (r : Running) (present : sli
   answered : (stop : TaskState) → StandsAt r.state stop → IsAllowed P m t → (a : Action) × Answers (wish_of P stop) a × Permits m r a
   answered stop at (e, is, n, step) =
       let same : step.task ≡ r = same_task m t r step.task present (subst (λ k. slice_get m.tasks k ≡ Some step.task) is step.present) in
-      let stands = subst (λ (q : Running). StandsAt q.state step.stop) same step.stands in
-      (e.action, subst (λ s. Answers (wish_of P s) e.action) (stands_at_one r.state step.stop stop stands at) step.answers, subst (λ q. Permits m q e.action) same step.permits)
+      let stands = subst (λ (q : Running). StandsAt q.state step.stop) same step.stands in (
+        e.action,
+        subst (λ s. Answers (wish_of P s) e.action) (stands_at_one r.state step.stop stop stands at) step.answers,
+        subst (λ q. Permits m q e.action) same step.permits,
+      )
 
   -- the wish of a task that waits for its children is allowed exactly where they have all ended
   pub sync_needs : Wants P r None → IsAllowed P m t → AllHaveEnded m r.block
@@ -155,7 +164,17 @@ module _ (P : tree.Program) (m : Machine) (t : ℕ) (r : Running) (present : sli
     record { task = t; strand = r.strand; action = Syncs m.strands },
     refl,
     after P m (record { task = t; strand = r.strand; action = Syncs m.strands }) r w.stop,
-    record { task = r; stop = w.stop; present = present; running = w.runs; strand = refl; stands = w.stands; answers = w.wish; permits = (refl, all); gives = refl },
+    record {
+      task = r;
+      stop = w.stop;
+      present = present;
+      running = w.runs;
+      strand = refl;
+      stands = w.stands;
+      answers = w.wish;
+      permits = (refl, all);
+      gives = refl;
+    },
   )
 
   pub get_needs : (f : ℕ) → Wants P r (Some f) → IsAllowed P m t → (v : Value) × (ended_with m f ≡ Some v)
@@ -166,7 +185,17 @@ module _ (P : tree.Program) (m : Machine) (t : ℕ) (r : Running) (present : sli
     record { task = t; strand = r.strand; action = Gets f v m.strands },
     refl,
     after P m (record { task = t; strand = r.strand; action = Gets f v m.strands }) r w.stop,
-    record { task = r; stop = w.stop; present = present; running = w.runs; strand = refl; stands = w.stands; answers = w.wish; permits = (refl, some); gives = refl },
+    record {
+      task = r;
+      stop = w.stop;
+      present = present;
+      running = w.runs;
+      strand = refl;
+      stands = w.stands;
+      answers = w.wish;
+      permits = (refl, some);
+      gives = refl;
+    },
   )
 
   -- a future that a task waits for exists

@@ -73,7 +73,8 @@ short_step P m e n k step short u q there =
 
 short_leads : (P : tree.Program) (m : Machine) (h : List Event) (n : Machine) (k : ℕ) → Leads P m h n → AreShort m k → AreShort n (k + length h)
 short_leads P m [] n k l short = subst (λ (z : Machine). AreShort z (k + 0)) l (λ u q there. let le = short u q there in omega (arith, le))
-short_leads P m (e ∷ h) n k (next, step, rest) short = λ u q there. let le = short_leads P next h n (k + 1) rest (short_step P m e next k step short) u q there in omega (arith, le)
+short_leads P m (e ∷ h) n k (next, step, rest) short = λ u q there. let le =
+    short_leads P next h n (k + 1) rest (short_step P m e next k step short) u q there in omega (arith, le)
 
 short_first : (P : tree.Program) → AreShort (opening P) 0
 short_first P zero r there = subst (λ (z : Running). length z.block ≤ 0) (some_same (begins P (main_of P) [] 0 0) r there) (omega arith)
@@ -94,7 +95,8 @@ some_unended m t (c ∷ cs) (inr i) none = let rest = some_unended m t cs i none
 
 -- ---- an event is made
 
-module _ (P : tree.Program) (h : List Event) (m n : Machine) (e : Event) (step : IsStep P m e n) (l : Leads P (opening P) h m) (seats : List Seat) (a : AreSeated P m seats) (few : length h < MOST_ENTRIES) where
+module _ (P : tree.Program) (h : List Event) (m n : Machine) (e : Event) (step : IsStep P m e n) (l : Leads P (opening P) h m) (seats : List Seat)
+    (a : AreSeated P m seats) (few : length h < MOST_ENTRIES) where
   own_seat : (s : Seat) × (slice_get seats e.task ≡ Some s) × IsSeat P m seats e.task step.task s
   own_seat = seat_of P m seats a e.task step.task step.present
 
@@ -138,29 +140,49 @@ module _ (P : tree.Program) (h : List Event) (m n : Machine) (e : Event) (step :
   pub may_settle : MaySettle seats e.task e.action
   may_settle = (own_seat.0, own_seat.1, can_settle e.action refl)
 
-  settled : (free : waits_for seats e.task ≡ None) (new : List Seat) (ready : List ℕ) (b : Action) → e.action ≡ b → Settles seats e.task b new ready → AreSeated P n new × IsReady P n seats e.task b ready
-  settled free new ready (Reads c v) does (x, is) =
-      (plain P h m n e step l seats new a x.before x.present free x.is (ap (λ b. value_by b step.task.value) does) (ap (λ b. block_after b step.task.block) does) (ap (child_of P step.task) does), is)
-  settled free new ready (Writes c v) does (x, is) =
-      (plain P h m n e step l seats new a x.before x.present free x.is (ap (λ b. value_by b step.task.value) does) (ap (λ b. block_after b step.task.block) does) (ap (child_of P step.task) does), is)
-  settled free new ready (Gets f v strand) does (x, is) =
-      (plain P h m n e step l seats new a x.before x.present free x.is (ap (λ b. value_by b step.task.value) does) (ap (λ b. block_after b step.task.block) does) (ap (child_of P step.task) does), is)
+  settled : (free : waits_for seats e.task ≡ None) (new : List Seat) (ready : List ℕ) (b : Action) → e.action ≡ b → Settles seats e.task b new ready
+      → AreSeated P n new × IsReady P n seats e.task b ready
+  settled free new ready (Reads c v) does (x, is) = (
+    plain P h m n e step l seats new a x.before x.present free x.is (ap (λ b. value_by b step.task.value) does)
+        (ap (λ b. block_after b step.task.block) does) (ap (child_of P step.task) does),
+    is,
+  )
+  settled free new ready (Writes c v) does (x, is) = (
+    plain P h m n e step l seats new a x.before x.present free x.is (ap (λ b. value_by b step.task.value) does)
+        (ap (λ b. block_after b step.task.block) does) (ap (child_of P step.task) does),
+    is,
+  )
+  settled free new ready (Gets f v strand) does (x, is) = (
+    plain P h m n e step l seats new a x.before x.present free x.is (ap (λ b. value_by b step.task.value) does)
+        (ap (λ b. block_after b step.task.block) does) (ap (child_of P step.task) does),
+    is,
+  )
   settled free new ready (Syncs strand) does (x, is) = (synced P h m n e step l seats new a x.before x.present free x.is strand does, is)
-  settled free new ready (Spawns code child kid cont args) does ((s, at, is), goes) = (spawned P h m n e step l seats new a s at free is code child kid cont args does, goes)
-  settled free new ready (Creates code child kid cont args) does ((s, at, is), goes) = (created P h m n e step l seats new a s at free is code child kid cont args does, goes)
+  settled free new ready (Spawns code child kid cont args) does ((s, at, is), goes) =
+      (spawned P h m n e step l seats new a s at free is code child kid cont args does, goes)
+  settled free new ready (Creates code child kid cont args) does ((s, at, is), goes) =
+      (created P h m n e step l seats new a s at free is code child kid cont args does, goes)
   settled free new ready (Ends v) does x = ended P h m n e step v does l seats a x.before x.present free new ready x
 
-module _ (P : tree.Program) (code : Compiled) (limits : Limits) (h : List Event) (run : ReplayNow) (seats : List Seat) (x : Holds P code limits h run seats) (t : ℕ) where
-  pub settles_now : (events : limits.events ≤ MOST_ENTRIES) (now : ReplayNow) (e : Event) → IsMade P code limits h x.machine t e now → MaySettle seats t e.action
-  settles_now events now e made = subst (λ k. MaySettle seats k e.action) made.task (may_settle P h x.machine made.next e made.step x.replay.leads seats x.seated (let few = made.few in omega (arith, few, events)))
+module _ (P : tree.Program) (code : Compiled) (limits : Limits) (h : List Event) (run : ReplayNow) (seats : List Seat) (x : Holds P code limits h run seats)
+    (t : ℕ) where
+  pub settles_now : (events : limits.events ≤ MOST_ENTRIES) (now : ReplayNow) (e : Event) → IsMade P code limits h x.machine t e now
+      → MaySettle seats t e.action
+  settles_now events now e made =
+      subst (λ k. MaySettle seats k e.action) made.task
+      (may_settle P h x.machine made.next e made.step x.replay.leads seats x.seated (let few = made.few in omega (arith, few, events)))
 
   -- an event was made
-  pub gone : (events : limits.events ≤ MOST_ENTRIES) (now : ReplayNow) (g : List Event) (new : List Seat) (e : Event) (ready : List ℕ) (r : Running) → IsRunning x.machine t r → waits_for seats t ≡ None → IsMade P code limits h x.machine t e now
-      → Settles seats t e.action new ready → g ≡ h ++ e ∷ [] → Holds P code limits g now new × (CanTurn x.machine seats t × HasGone P limits x.machine (seen h seats) t (seen g new) ready)
+  pub gone : (events : limits.events ≤ MOST_ENTRIES) (now : ReplayNow) (g : List Event) (new : List Seat) (e : Event) (ready : List ℕ) (r : Running)
+      → IsRunning x.machine t r → waits_for seats t ≡ None → IsMade P code limits h x.machine t e now
+      → Settles seats t e.action new ready → g ≡ h ++ e ∷ [] → Holds P code limits g now new
+      × (CanTurn x.machine seats t × HasGone P limits x.machine (seen h seats) t (seen g new) ready)
   gone events now g new e ready r running free made settles is =
       let few = made.few in
       let below : length h < MOST_ENTRIES = omega (arith, few, events) in
-      let both = settled P h x.machine made.next e made.step x.replay.leads seats x.seated below (subst (λ k. waits_for seats k ≡ None) (sym made.task) free) new ready e.action refl (subst (λ k. Settles seats k e.action new ready) (sym made.task) settles) in
+      let both = settled P h x.machine made.next e made.step x.replay.leads seats x.seated below
+      (subst (λ k. waits_for seats k ≡ None) (sym made.task) free) new ready e.action refl
+      (subst (λ k. Settles seats k e.action new ready) (sym made.task) settles) in
       let more = longer h e in
       let length_is = ap length is in (
         record {
@@ -187,9 +209,12 @@ module _ (P : tree.Program) (code : Compiled) (limits : Limits) (h : List Event)
       )
 
   -- nothing was changed
-  pub same : (now : ReplayNow) (g : List Event) (new : List Seat) → IsReplayOf P code h now x.machine → g ≡ h → new ≡ seats → Holds P code limits g now new × (seen g new ≡ seen h seats)
+  pub same : (now : ReplayNow) (g : List Event) (new : List Seat) → IsReplayOf P code h now x.machine → g ≡ h → new ≡ seats
+      → Holds P code limits g now new × (seen g new ≡ seen h seats)
   same now g new k is kept = (
-    subst (λ z. Holds P code limits z now new) (sym is) (subst (λ z. Holds P code limits h now z) (sym kept) (record { machine = x.machine; replay = k; few = x.few; creates_few = x.creates_few; seated = x.seated })),
+    subst (λ z. Holds P code limits z now new) (sym is)
+        (subst (λ z. Holds P code limits h now z) (sym kept)
+        (record { machine = x.machine; replay = k; few = x.few; creates_few = x.creates_few; seated = x.seated })),
     cc,
   )
 
@@ -199,12 +224,14 @@ module _ (P : tree.Program) (code : Compiled) (limits : Limits) (h : List Event)
       may_park P h x.machine x.replay.leads seats x.seated t r running.0 s.0 s.1 free o w
 
   -- the task has gone to wait
-  pub waits : (now : ReplayNow) (g : List Event) (new : List Seat) (r : Running) → IsRunning x.machine t r → waits_for seats t ≡ None → (o : Option ℕ) → IsWaiting P x.machine t o → IsReplayOf P code h now x.machine → g ≡ h → Parks seats t o new
+  pub waits : (now : ReplayNow) (g : List Event) (new : List Seat) (r : Running) → IsRunning x.machine t r → waits_for seats t ≡ None → (o : Option ℕ)
+      → IsWaiting P x.machine t o → IsReplayOf P code h now x.machine → g ≡ h → Parks seats t o new
       → Holds P code limits g now new × (CanTurn x.machine seats t × HasParked P x.machine (seen h seats) t (seen g new))
   waits now g new r running free o w k is parks =
       let s = seat_of P x.machine seats x.seated t r running.0 in
       let p = parked P h x.machine x.replay.leads seats x.seated t r running.0 s.0 s.1 free new o w parks in (
-        subst (λ z. Holds P code limits z now new) (sym is) (record { machine = x.machine; replay = k; few = x.few; creates_few = x.creates_few; seated = p.seated }),
+        subst (λ z. Holds P code limits z now new) (sym is)
+            (record { machine = x.machine; replay = k; few = x.few; creates_few = x.creates_few; seated = p.seated }),
         (
           record { task = r; running = running; free = free },
           record { future = o; waiting = w; waits = p.waits; others = p.others; history = is; parks = parks },
@@ -213,7 +240,8 @@ module _ (P : tree.Program) (code : Compiled) (limits : Limits) (h : List Event)
 
 -- ---- the value behind the lock
 
-module _ (code own : Compiled) (named limits : Limits) (h : List Event) (run : ReplayNow) (seats : List Seat) (e : code ≡ own) (kept : IsKept own named limits h run seats) where
+module _ (code own : Compiled) (named limits : Limits) (h : List Event) (run : ReplayNow) (seats : List Seat) (e : code ≡ own)
+    (kept : IsKept own named limits h run seats) where
   -- it is named so by the code that is lent
   pub named_so : IsNamed code limits
   named_so = subst (λ k. IsNamed k limits) (sym e) (subst (IsNamed own) (sym kept.limits_are) kept.name)
@@ -230,7 +258,8 @@ module _ (code own : Compiled) (named limits : Limits) (h : List Event) (run : R
         record {
           limits_are = kept.limits_are;
           name = kept.name;
-          holds = subst (λ k. AlwaysHolds k named g now new) e (subst (λ k. AlwaysHolds code k g now new) kept.limits_are (λ P typed of. (turns P typed of (holds_so P typed of)).0));
+          holds = subst (λ k. AlwaysHolds k named g now new) e
+              (subst (λ k. AlwaysHolds code k g now new) kept.limits_are (λ P typed of. (turns P typed of (holds_so P typed of)).0));
         }
 
     pub turns_so : AlwaysTurns code named (seen h seats) t (seen g new) made

@@ -37,4 +37,5 @@ AlwaysGoes code limits start h now = (P : tree.Program) → IsWellTyped P → Is
 -- after a turn the run has made one more event, or stops
 abbrev pub HasTurned : Compiled → Limits → List Event → List Event → List Event → ReplayNow → Option Finish → Type 0
 HasTurned code limits start h new now None = (length new ≡ length h + 1) × AlwaysGoes code limits start new now
-HasTurned code limits start h new now (Some f) = (P : tree.Program) → IsWellTyped P → IsCodeOf P code → (x : Goes P code limits start new now) × Stops P limits new x.machine f
+HasTurned code limits start h new now (Some f) =
+    (P : tree.Program) → IsWellTyped P → IsCodeOf P code → (x : Goes P code limits start new now) × Stops P limits new x.machine f

@@ -1,5 +1,6 @@
 -- The places where tasks wait.
-use Rattle.std.specs.Prelude.{◌≡◌, ℕ, zero, suc, ◌+◌, ◌-◌, ◌^◌, ◌<◌, List, [], ◌∷◌, ◌++◌, slice_get, slice_set, Option, Some, None, option_and_then, option_to_list}
+use Rattle.std.specs.Prelude.{◌≡◌, ℕ, zero, suc, ◌+◌, ◌-◌, ◌^◌, ◌<◌, List, [], ◌∷◌, ◌++◌, slice_get}
+use Rattle.std.specs.Prelude.{slice_set, Option, Some, None, option_and_then, option_to_list}
 use Rattle.fut_base.specs.declared.record.Value.{Value}
 use Rattle.fut_base.specs.declared.event.Action.{Action}
 use Rattle.fut_base.specs.declared.event.Action.TheVariants.{Spawns, Creates, Ends}
@@ -36,7 +37,13 @@ joined (suc (suc _)) waiter = None
 
 -- a child of the task has ended
 abbrev pub told : Seat → Seat
-told s = record { parent = s.parent; awaited = s.awaited; children = record { count = s.children.count - 1; waiter = left_to_join s.children.count s.children.waiter }; waits = s.waits }
+told s =
+    record {
+      parent = s.parent;
+      awaited = s.awaited;
+      children = record { count = s.children.count - 1; waiter = left_to_join s.children.count s.children.waiter };
+      waits = s.waits;
+    }
 
 -- the task waits for its children
 abbrev pub sits : ℕ → Seat → Seat

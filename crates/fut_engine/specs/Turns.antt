@@ -87,4 +87,5 @@ AlwaysTurns code limits old t new made =
 -- a turn of a run that is kept, which it leaves kept
 abbrev pub KeepsTurning : Compiled → Limits → List Event → ReplayNow → List Seat → ℕ → List Event → ReplayNow → List Seat → Made → Type 0
 KeepsTurning code limits h run seats t h' run' seats' made =
-    (P : tree.Program) → IsWellTyped P → IsCodeOf P code → (x : Holds P code limits h run seats) → Holds P code limits h' run' seats' × Turns P limits x.machine (record { history = h; seats = seats }) t (record { history = h'; seats = seats' }) made
+    (P : tree.Program) → IsWellTyped P → IsCodeOf P code → (x : Holds P code limits h run seats)
+    → Holds P code limits h' run' seats' × Turns P limits x.machine (record { history = h; seats = seats }) t (record { history = h'; seats = seats' }) made

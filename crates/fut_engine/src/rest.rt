@@ -29,7 +29,8 @@ fn go_first(
 ) -> Result<Option<Finish>, NoMemory>
     requires name { IsNamed code.now limits }
     requires goes { (start : List Event) × AlwaysGoes code.now limits start (events_of history.old) run.old }
-    ensures { (start : List Event) → AlwaysGoes code.now limits start (events_of history.old) run.old → IfOk result (λ finish. HasTurned code.now limits start (events_of history.old) (events_of history.new) run.new finish) }
+    ensures { (start : List Event) → AlwaysGoes code.now limits start (events_of history.old) run.old
+        → IfOk result (λ finish. HasTurned code.now limits start (events_of history.old) (events_of history.new) run.new finish) }
 {
     history.reserve()?;
     match run.next_ready() {
@@ -74,7 +75,8 @@ pub fn go_on_alone(
 ) -> Result<Ran, NoMemory>
     requires name { IsNamed code.now limits }
     requires goes { AlwaysGoes code.now limits (events_of history) (events_of history) run }
-    ensures run { IfOk result (λ ran. (P : tree.Program) → IsWellTyped P → IsCodeOf P code.now → IsRun P limits (events_of ran.history) ran.finish ran.cells.items) }
+    ensures run { IfOk result
+        (λ ran. (P : tree.Program) → IsWellTyped P → IsCodeOf P code.now → IsRun P limits (events_of ran.history) ran.finish ran.cells.items) }
     ensures goes { IfOk result (λ ran. (P : tree.Program) → IsWellTyped P → IsCodeOf P code.now → GoesFirst P (events_of history) (events_of ran.history)) }
     ensures races { IfOk result (λ ran. IsReport (events_of ran.history) ran.races.items) }
     ensures never_stuck { IfOk result (λ ran. (P : tree.Program) → IsWellTyped P → IsCodeOf P code.now → IsNeverStuck P (events_of ran.history)) }

@@ -79,7 +79,8 @@ fn run_named<J: Naming + Send + Sync, G: Gate + Sync, R: Threads + Wait + Sync>(
     requires limits { options.limits ≡ J.limits }
     requires name { IsNamed code.now options.limits }
     requires workers { (1 ≤ options.workers) × (options.workers ≤ MOST_WORKERS) }
-    ensures run { IfOk result (λ ran. (P : tree.Program) → IsWellTyped P → IsCodeOf P code.now → IsRun P options.limits (events_of ran.history) ran.finish ran.cells.items) }
+    ensures run { IfOk result
+        (λ ran. (P : tree.Program) → IsWellTyped P → IsCodeOf P code.now → IsRun P options.limits (events_of ran.history) ran.finish ran.cells.items) }
     ensures races { IfOk result (λ ran. IsReport (events_of ran.history) ran.races.items) }
     ensures never_stuck { IfOk result (λ ran. (P : tree.Program) → IsWellTyped P → IsCodeOf P code.now → IsNeverStuck P (events_of ran.history)) }
 {
@@ -102,7 +103,8 @@ pub fn run<G: Gate + Sync, R: Threads + Wait + Sync>(
     requires local { options.limits.local_steps ≡ MOST_LOCAL_STEPS }
     requires events { options.limits.events ≤ MOST_ENTRIES }
     requires futures { options.limits.futures ≡ MOST_CREATES }
-    ensures run { IfOk result (λ ran. (P : tree.Program) → IsWellTyped P → IsCodeOf P code.now → IsRun P options.limits (events_of ran.history) ran.finish ran.cells.items) }
+    ensures run { IfOk result
+        (λ ran. (P : tree.Program) → IsWellTyped P → IsCodeOf P code.now → IsRun P options.limits (events_of ran.history) ran.finish ran.cells.items) }
     ensures races { IfOk result (λ ran. IsReport (events_of ran.history) ran.races.items) }
     ensures never_stuck { IfOk result (λ ran. (P : tree.Program) → IsWellTyped P → IsCodeOf P code.now → IsNeverStuck P (events_of ran.history)) }
 {

@@ -94,7 +94,8 @@ impl<J: Naming> Whole<J> {
     /// task has ended or an event is spent.
     pub fn rest(self, code: &Code) -> Result<Ran, NoMemory>
         requires code { code.now ≡ J.code }
-        ensures run { IfOk result (λ ran. (P : tree.Program) → IsWellTyped P → IsCodeOf P code.now → IsRun P J.limits (events_of ran.history) ran.finish ran.cells.items) }
+        ensures run { IfOk result
+            (λ ran. (P : tree.Program) → IsWellTyped P → IsCodeOf P code.now → IsRun P J.limits (events_of ran.history) ran.finish ran.cells.items) }
         ensures goes { IfOk result (λ ran. (P : tree.Program) → IsWellTyped P → IsCodeOf P code.now → GoesFirst P self.history (events_of ran.history)) }
         ensures races { IfOk result (λ ran. IsReport (events_of ran.history) ran.races.items) }
         ensures never_stuck { IfOk result (λ ran. (P : tree.Program) → IsWellTyped P → IsCodeOf P code.now → IsNeverStuck P (events_of ran.history)) }

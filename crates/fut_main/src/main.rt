@@ -7,7 +7,7 @@
 
 ghost use Rattle.std.specs.Prelude.{true};
 ghost use Rattle.std.specs.Process.{exit_status};
-ghost use Rattle.fut_driver.specs.declared.line.Line.{Line};
+ghost use Rattle.fut_driver.specs.declared.line.CommandLine.{CommandLine};
 ghost use Rattle.fut_driver.specs.Given.{Asked, Told, asked_of, told_of};
 ghost use Rattle.fut_driver.specs.Process.{EndsWith};
 
@@ -27,7 +27,7 @@ fn answer<R: Env + AllocGlobal + Threads + Wait + Sync, S: Source, K: Sink>(
     source: &mut S,
     out: &mut K,
 ) -> ExitCode
-    ensures { (line : Line) × EndsWith line
+    ensures { (line : CommandLine) × EndsWith line
         (λ words. asked_of S.Source true words source.old source.new)
         (told_of K.Sink out.old out.new)
         (exit_status result) }

@@ -11,7 +11,8 @@ use Rattle.fut_syntax.specs.Views.{args_tree, block_tree, params_tree}
 use Rattle.fut_print.specs.Writing.{Wrote}
 
 -- the same tree spells the same
-pub wrote_as : {T : Type 0} → (before : T → List Token → List Token) (old new : List Token) (x y : T) → x ≡ y → Wrote old new (before x) → Wrote old new (before y)
+pub wrote_as : {T : Type 0} → (before : T → List Token → List Token) (old new : List Token) (x y : T) → x ≡ y → Wrote old new (before x)
+    → Wrote old new (before y)
 wrote_as before old new x y e h = subst (λ q. Wrote old new (before q)) e h
 
 pub more_done : (i : ℕ) (es : List Expr) (m old new : List Token) → length es ≤ i
@@ -37,12 +38,14 @@ pub block_done : (i : ℕ) (b : List Stmt) (m old new : List Token) → length b
     → ((r : List Token) → m ++ block_before (block_tree (drop i b)) r ≡ old ++ t.LeftBrace ∷ block_before (block_tree b) r)
     → Wrote m new (λ r. t.RightBrace ∷ r) → Wrote old new (λ r. t.LeftBrace ∷ block_before (block_tree b) r)
 block_done i b m old new low h g = record {
-  are = λ r. g.are r ∙ subst (λ (q : List Stmt). m ++ block_before (block_tree q) r ≡ old ++ t.LeftBrace ∷ block_before (block_tree b) r) (drop_all i b low) (h r);
+  are = λ r. g.are r ∙ subst (λ (q : List Stmt). m ++ block_before (block_tree q) r ≡ old ++ t.LeftBrace ∷ block_before (block_tree b) r) (drop_all i b low)
+      (h r);
 }
 
 pub more_params_done : (i : ℕ) (ps : List Param) (m old new : List Token) → length ps ≤ i
     → ((r : List Token) → m ++ more_params_before (params_tree (drop i ps)) r ≡ old ++ more_params_before (params_tree ps) r)
     → Wrote m new (λ r. t.RightParen ∷ r) → Wrote old new (more_params_before (params_tree ps))
 more_params_done i ps m old new low h g = record {
-  are = λ r. g.are r ∙ subst (λ (q : List Param). m ++ more_params_before (params_tree q) r ≡ old ++ more_params_before (params_tree ps) r) (drop_all i ps low) (h r);
+  are = λ r. g.are r ∙ subst (λ (q : List Param). m ++ more_params_before (params_tree q) r ≡ old ++ more_params_before (params_tree ps) r)
+      (drop_all i ps low) (h r);
 }

@@ -2,7 +2,8 @@
 ghost use Rattle.std.specs.Prelude.{◌≡◌, ◌∷◌, OnOk};
 ghost use Rattle.fut_tokens.specs.declared.token.Token.TheVariants as t;
 ghost use Rattle.fut_syntax.specs.Trees as trees;
-ghost use Rattle.fut_syntax.specs.Tokens.{op_token, sign_before, expr_before, operand_before, primary_before, more_before, args_before, call_before, init_before, type_before, var_type_before};
+ghost use Rattle.fut_syntax.specs.Tokens.{op_token, sign_before, expr_before, operand_before, primary_before, more_before};
+ghost use Rattle.fut_syntax.specs.Tokens.{args_before, call_before, init_before, type_before, var_type_before};
 ghost use Rattle.fut_syntax.specs.Views.{op_tree, sign_tree, expr_tree, operand_tree, primary_tree, args_tree, init_tree, type_tree};
 ghost use Rattle.fut_print.specs.Writing.{Wrote};
 

@@ -2,8 +2,12 @@
 use Rattle.std.proofs.Common.{◌≡◌, ℕ, zero, suc, List, [], ◌∷◌, ◌++◌, refl, sym, ap, ◌∙◌, map}
 use Rattle.fut_tokens.specs.declared.token.Token.{Token}
 use Rattle.fut_tokens.specs.declared.token.Token.TheVariants as t
-use Rattle.fut_syntax.specs.Trees.{Sign, NoSign, Negative, Inverted, Expr, Alone, Pair, Operand, Signed, Primary, Literal, Name, Bracket, Init, GetOf, CreateOf, Index, Value, VarType, Plain, Array, Stmt, Declare, Define, Assign, Store, SpawnOf, SyncAll, If', While', Return', Block, Done, Then, Tail, NoElse, ElseOf, Param, Item, CellsOf, TaskOf, Program}
-use Rattle.fut_syntax.specs.Tokens.{op_token, sign_before, expr_before, operand_before, primary_before, more_before, args_before, init_before, type_before, var_type_before, stmt_before, block_before, tail_before, param_before, more_params_before, params_before, item_before, items_before, program_tokens}
+use Rattle.fut_syntax.specs.Trees.{Sign, NoSign, Negative, Inverted, Expr, Alone, Pair, Operand, Signed, Primary, Literal, Name, Bracket, Init}
+use Rattle.fut_syntax.specs.Trees.{GetOf, CreateOf, Index, Value, VarType, Plain, Array, Stmt, Declare, Define, Assign, Store, SpawnOf, SyncAll}
+use Rattle.fut_syntax.specs.Trees.{If', While', Return', Block, Done, Then, Tail, NoElse, ElseOf, Param, Item, CellsOf, TaskOf, Program}
+use Rattle.fut_syntax.specs.Tokens.{op_token, sign_before, expr_before, operand_before, primary_before, more_before, args_before}
+use Rattle.fut_syntax.specs.Tokens.{init_before, type_before, var_type_before, stmt_before, block_before, tail_before, param_before}
+use Rattle.fut_syntax.specs.Tokens.{more_params_before, params_before, item_before, items_before, program_tokens}
 use Rattle.fut_syntax.specs.Lines.{item_tokens, program_lines}
 use Rattle.fut_tokens.specs.Spelling.{tokens_in_lines}
 
@@ -61,7 +65,8 @@ mutual
   stmt_appends (Assign w i) r s = ap (λ q. t.Word w ∷ t.Equals ∷ q) (init_appends i (t.Semicolon ∷ r) s)
   stmt_appends (Store w e f) r s =
       ap (λ q. t.Word w ∷ t.LeftSquare ∷ q)
-      (ap (λ q. expr_before e (t.RightSquare ∷ t.Equals ∷ q)) (expr_appends f (t.Semicolon ∷ r) s) ∙ expr_appends e (t.RightSquare ∷ t.Equals ∷ expr_before f (t.Semicolon ∷ r)) s)
+      (ap (λ q. expr_before e (t.RightSquare ∷ t.Equals ∷ q)) (expr_appends f (t.Semicolon ∷ r) s)
+      ∙ expr_appends e (t.RightSquare ∷ t.Equals ∷ expr_before f (t.Semicolon ∷ r)) s)
   stmt_appends (SpawnOf w es) r s = ap (λ q. t.Spawn ∷ t.Word w ∷ t.LeftParen ∷ q) (args_appends es (t.Semicolon ∷ r) s)
   stmt_appends SyncAll r s = refl
   stmt_appends (If' e b o) r s =

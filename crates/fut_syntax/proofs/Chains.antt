@@ -1,5 +1,6 @@
 -- How the steps of a part follow from those of its parts.
-use Rattle.std.proofs.Common.{◌≡◌, ℕ, ◌+◌, Bool, true, false, List, [], ◌∷◌, ◌++◌, refl, sym, subst, ap, ◌∙◌, append_assoc, length, cond, nat_le, ◌<◌, ◌-◌, ◌&&◌, arith}
+use Rattle.std.proofs.Common.{◌≡◌, ℕ, ◌+◌, Bool, true, false, List, [], ◌∷◌, ◌++◌, refl, sym, subst}
+use Rattle.std.proofs.Common.{ap, ◌∙◌, append_assoc, length, cond, nat_le, ◌<◌, ◌-◌, ◌&&◌, arith}
 use Rattle.std.specs.Prelude.{Option, Some}
 use Rattle.std.proofs.lemmas.Bool.Decides.{nat_tests}
 use Rattle.fut_tokens.specs.declared.token.Token.{Token}
@@ -7,7 +8,8 @@ use Rattle.fut_tokens.specs.declared.token.Token.TheVariants as t
 use Rattle.fut_syntax.specs.declared.cursor.Stop.{Stop}
 use Rattle.fut_syntax.specs.declared.cursor.Stop.TheVariants as stop
 use Rattle.fut_syntax.specs.Faults.{is_full, open_by, opens, closes}
-use Rattle.fut_syntax.specs.Machine.{Symbol, First, More, Params, ParamsTail, Type', Length, Word', Colon', Expr', ExprTail, Operand', Primary', RightParen', InitTail, Init', Args, ArgsTail, then_due, Takes, Passes, rule, next, by_answer, run_on, run64}
+use Rattle.fut_syntax.specs.Machine.{Symbol, First, More, Params, ParamsTail, Type', Length, Word', Colon', Expr', ExprTail, Operand', Primary'}
+use Rattle.fut_syntax.specs.Machine.{RightParen', InitTail, Init', Args, ArgsTail, then_due, Takes, Passes, rule, next, by_answer, run_on, run64}
 use Rattle.fut_syntax.specs.Steps.{Steps, StepsAt, Stops, StopsBy, behind}
 use Rattle.fut_syntax.specs.Trees.{Expr, Param}
 use Rattle.fut_syntax.specs.Tokens.{expr_before, param_before}
@@ -15,17 +17,20 @@ use Rattle.fut_syntax.proofs.Longer.{expr_longer, param_longer}
 use Rattle.fut_syntax.proofs.Splits as splits
 
 -- the first that is due goes on
-pub after : {s s' s'' : List Symbol} {b : Symbol} {d d' d'' : ℕ} {xs m ys : List Token} → Steps s d xs (b ∷ s') d' m → Steps (b ∷ []) d' m s'' d'' ys → Steps s d xs (s'' ++ s') d'' ys
+pub after : {s s' s'' : List Symbol} {b : Symbol} {d d' d'' : ℕ} {xs m ys : List Token} → Steps s d xs (b ∷ s') d' m → Steps (b ∷ []) d' m s'' d'' ys
+    → Steps s d xs (s'' ++ s') d'' ys
 after {s' = s'} {s'' = s''} {d'' = d''} {ys = ys} h g = record {
   goes = λ k. h.goes k ∙ g.goes (s' ++ k) ∙ sym (ap (λ (q : List Symbol). run64 q d'' ys) (append_assoc s'' s' k));
 }
 
-stops_by : (s s' : List Symbol) (b : Symbol) (d d' : ℕ) (xs m ys : List Token) → Steps s d xs (b ∷ s') d' m → (e : Stop) → StopsBy (b ∷ []) d' m ys e → StopsBy s d xs ys e
+stops_by : (s s' : List Symbol) (b : Symbol) (d d' : ℕ) (xs m ys : List Token) → Steps s d xs (b ∷ s') d' m → (e : Stop) → StopsBy (b ∷ []) d' m ys e
+    → StopsBy s d xs ys e
 stops_by s s' b d d' xs m ys h stop.Fault g = record { stops = λ k. h.goes k ∙ g.stops (s' ++ k) }
 stops_by s s' b d d' xs m ys h stop.NoMemory g = tt
 
 -- the first that is due stops
-pub stops_after : {s s' : List Symbol} {b : Symbol} {d d' : ℕ} {xs m ys : List Token} {e : Stop} → Steps s d xs (b ∷ s') d' m → Stops (b ∷ []) d' m ys e → Stops s d xs ys e
+pub stops_after : {s s' : List Symbol} {b : Symbol} {d d' : ℕ} {xs m ys : List Token} {e : Stop} → Steps s d xs (b ∷ s') d' m → Stops (b ∷ []) d' m ys e
+    → Stops s d xs ys e
 stops_after {s = s} {s' = s'} {b = b} {d = d} {d' = d'} {xs = xs} {m = m} {ys = ys} {e = e} h g = record { by = stops_by s s' b d d' xs m ys h e g.by }
 
 pub no_memory : {s : List Symbol} {d : ℕ} {xs ys : List Token} {e : Stop} → e ≡ stop.NoMemory → Stops s d xs ys e
@@ -39,7 +44,8 @@ room true x y e = absurd (cc)
 room false x y e = refl
 
 -- A symbol takes the token in view: a plain one, an opening bracket, a closing one.
-pub takes : (a : Symbol) (x : Token) (s : List Symbol) (d : ℕ) (xs ys : List Token) → rule a x ≡ Takes s → opens x ≡ false → closes x ≡ false → xs ≡ x ∷ ys → Steps (a ∷ []) d xs s d ys
+pub takes : (a : Symbol) (x : Token) (s : List Symbol) (d : ℕ) (xs ys : List Token) → rule a x ≡ Takes s → opens x ≡ false → closes x ≡ false → xs ≡ x ∷ ys
+    → Steps (a ∷ []) d xs s d ys
 takes a x s d xs ys e o c front = record {
   goes = λ k.
       ap (λ q. run64 (a ∷ k) d q) front
@@ -60,7 +66,8 @@ takes_open a x s d inner xs ys e o front h = record {
       ∙ ap (λ q. run64 (s ++ k) inner q) (sym h.2);
 }
 
-pub takes_close : (a : Symbol) (x : Token) (s : List Symbol) (d inner : ℕ) (xs ys : List Token) → rule a x ≡ Takes s → opens x ≡ false → closes x ≡ true → inner ≡ d + 1 → xs ≡ x ∷ ys → Steps (a ∷ []) inner xs s d ys
+pub takes_close : (a : Symbol) (x : Token) (s : List Symbol) (d inner : ℕ) (xs ys : List Token) → rule a x ≡ Takes s → opens x ≡ false → closes x ≡ true
+    → inner ≡ d + 1 → xs ≡ x ∷ ys → Steps (a ∷ []) inner xs s d ys
 takes_close a x s d inner xs ys e o c same front = record {
   goes = λ k.
       let less : inner - 1 ≡ d = omega arith in
@@ -85,7 +92,8 @@ init_tail_rule_as t.LeftSquare never = absurd (never refl)
 init_tail_rule_as _ never = refl
 
 -- after a word that no bracket follows an init goes on as an expression
-pub init_tail_as : {s : List Symbol} {d d' : ℕ} {xs ys : List Token} (x : Token) → xs ≡ x ∷ behind xs → (x ≡ t.LeftSquare → ⊥) → Steps (ExprTail ∷ []) d xs s d' ys → Steps (InitTail ∷ []) d xs s d' ys
+pub init_tail_as : {s : List Symbol} {d d' : ℕ} {xs ys : List Token} (x : Token) → xs ≡ x ∷ behind xs → (x ≡ t.LeftSquare → ⊥)
+    → Steps (ExprTail ∷ []) d xs s d' ys → Steps (InitTail ∷ []) d xs s d' ys
 init_tail_as {s = s} {d = d} {d' = d'} {xs = xs} {ys = ys} x front never h = record {
   goes = λ k.
       ap (λ q. run64 (InitTail ∷ k) d q) front
@@ -105,7 +113,8 @@ args_opens {d = d} {xs = xs} x front never = record {
   goes = λ k.
       ap (λ q. run64 (Args ∷ k) d q) front
       ∙ splits.same_next is_full open_by (Args ∷ k) (Expr' ∷ ArgsTail ∷ k) d x (behind xs)
-      (ap (λ b. by_answer b k (next k x)) (args_rule_as x never) ∙ splits.then_split (rule Expr' x) (ArgsTail ∷ []) k (next k x) (next (ArgsTail ∷ k) x) (splits.expr_firm x))
+      (ap (λ b. by_answer b k (next k x)) (args_rule_as x never) ∙ splits.then_split (rule Expr' x) (ArgsTail ∷ []) k (next k x) (next (ArgsTail ∷ k) x)
+      (splits.expr_firm x))
       ∙ ap (λ q. run64 (Expr' ∷ ArgsTail ∷ k) d q) (sym front);
 }
 
@@ -115,7 +124,8 @@ init_rule_as t.Create get create word = absurd (create refl)
 init_rule_as (t.Word w) get create word = absurd (word w refl)
 init_rule_as _ get create word = refl
 
-pub init_opens : {d : ℕ} {xs : List Token} (x : Token) → xs ≡ x ∷ behind xs → (x ≡ t.Get → ⊥) → (x ≡ t.Create → ⊥) → ((w : List ℕ) → x ≡ t.Word w → ⊥) → Steps (Init' ∷ []) d xs (Expr' ∷ []) d xs
+pub init_opens : {d : ℕ} {xs : List Token} (x : Token) → xs ≡ x ∷ behind xs → (x ≡ t.Get → ⊥) → (x ≡ t.Create → ⊥) → ((w : List ℕ) → x ≡ t.Word w → ⊥)
+    → Steps (Init' ∷ []) d xs (Expr' ∷ []) d xs
 init_opens {d = d} {xs = xs} x front get create word = record {
   goes = λ k.
       ap (λ q. run64 (Init' ∷ k) d q) front
@@ -157,7 +167,8 @@ params_next t.RightParen k never = absurd (never refl)
 params_next _ k never = refl
 
 -- where no closing bracket is in view a parameter is due
-pub params_opens : {d : ℕ} {xs : List Token} (x : Token) → xs ≡ x ∷ behind xs → (x ≡ t.RightParen → ⊥) → Steps (Params ∷ []) d xs (Word' ∷ Colon' ∷ Type' ∷ Length ∷ ParamsTail ∷ []) d xs
+pub params_opens : {d : ℕ} {xs : List Token} (x : Token) → xs ≡ x ∷ behind xs → (x ≡ t.RightParen → ⊥)
+    → Steps (Params ∷ []) d xs (Word' ∷ Colon' ∷ Type' ∷ Length ∷ ParamsTail ∷ []) d xs
 params_opens {d = d} {xs = xs} x front never = record {
   goes = λ k.
       ap (λ q. run64 (Params ∷ k) d q) front
@@ -170,7 +181,8 @@ within_by p k s d d' xs m ys h stop.Fault g = record { stops = λ r. h.goes r �
 within_by p k s d d' xs m ys h stop.NoMemory g = tt
 
 -- a part of what is due stops
-pub stops_within : (p k : List Symbol) {s : List Symbol} {d d' : ℕ} {xs m ys : List Token} {e : Stop} → Steps s d xs (p ++ k) d' m → Stops p d' m ys e → Stops s d xs ys e
+pub stops_within : (p k : List Symbol) {s : List Symbol} {d d' : ℕ} {xs m ys : List Token} {e : Stop} → Steps s d xs (p ++ k) d' m → Stops p d' m ys e
+    → Stops s d xs ys e
 stops_within p k {s = s} {d = d} {d' = d'} {xs = xs} {m = m} {ys = ys} {e = e} h g = record { by = within_by p k s d d' xs m ys h e g.by }
 
 -- a parameter and the token before it leave fewer tokens

@@ -9,7 +9,8 @@ one_first : (d : ℕ) (r : List Token) → length (type_before d r) ≡ length (
 one_first zero r = omega arith
 one_first (suc d) r = omega arith
 
-fut_counted : (left rest : ℕ) (m n r : List Token) → m ≡ t.Fut ∷ n → n ≡ type_before rest r → length (behind m) ≤ left → (left - length (behind m)) + suc rest ≡ (left - length (behind n)) + rest
+fut_counted : (left rest : ℕ) (m n r : List Token) → m ≡ t.Fut ∷ n → n ≡ type_before rest r → length (behind m) ≤ left
+    → (left - length (behind m)) + suc rest ≡ (left - length (behind n)) + rest
 fut_counted left rest m n r e g low =
     let a : length n ≡ length (behind n) + 1 = subst (λ (q : List Token). length q ≡ length (behind q) + 1) (sym g) (one_first rest r) in
     let b : length (behind m) ≡ length n = ap (λ (q : List Token). length (behind q)) e in

@@ -7,7 +7,10 @@ use Rattle.fut_tokens.specs.declared.token.Token.{Token}
 use Rattle.fut_tokens.specs.declared.token.Token.TheVariants as t
 use Rattle.fut_syntax.specs.Trees.{Program}
 use Rattle.fut_syntax.specs.Tokens.{program_before}
-use Rattle.fut_syntax.specs.Machine.{Symbol, First, More, Params, ParamsTail, Type', Length, Block', Stmts, Else', VarInit, WordStmt, Init', InitTail, Args, ArgsTail, Expr', ExprTail, Operand', Primary', Word', Number', LeftParen', RightParen', LeftSquare', RightSquare', Semicolon', Colon', Equals', Answer, Takes, Passes, Stops, first_rule, rule, by_answer, next, go_on, walk, run_on, run, run64}
+use Rattle.fut_syntax.specs.Machine.{Symbol, First, More, Params, ParamsTail, Type', Length, Block', Stmts, Else', VarInit}
+use Rattle.fut_syntax.specs.Machine.{WordStmt, Init', InitTail, Args, ArgsTail, Expr', ExprTail, Operand', Primary', Word', Number'}
+use Rattle.fut_syntax.specs.Machine.{LeftParen', RightParen', LeftSquare', RightSquare', Semicolon', Colon', Equals', Answer}
+use Rattle.fut_syntax.specs.Machine.{Takes, Passes, Stops, first_rule, rule, by_answer, next, go_on, walk, run_on, run, run64}
 use Rattle.fut_syntax.specs.Faults.{IsFault, IsWhole, is_full, open_by}
 use Rattle.fut_syntax.specs.Phrases.{Phrases}
 use Rattle.fut_tokens.specs.Ended.{IsEnded}
@@ -101,7 +104,8 @@ inside Equals' _ h = refl
 abbrev IsAfter : Token → List Symbol → Type 0
 IsAfter x s = ((is_end x ≡ true) → s ≡ []) × ((is_end x ≡ false) → IsDue s)
 
-after_inside : (a : Symbol) (k s : List Symbol) (x : Token) (b : Bool) (answer : Answer) (passed : Option (List Symbol)) → is_end x ≡ b → keeps_inside b answer ≡ true → IsDue k
+after_inside : (a : Symbol) (k s : List Symbol) (x : Token) (b : Bool) (answer : Answer) (passed : Option (List Symbol)) → is_end x ≡ b
+    → keeps_inside b answer ≡ true → IsDue k
     → (passed ≡ Some s → IsAfter x s) → by_answer answer k passed ≡ Some s → IsAfter x s
 after_inside a k s x true (Takes m) passed eb e due ih h = absurd (cc)
 after_inside a k s x false (Takes m) passed eb e due ih h =
@@ -129,12 +133,14 @@ outer More t.Task h = first_outer t.Task
 outer More _ h = tt
 outer _ x h = absurd (cc)
 
-after_outer : (s : List Symbol) (x : Token) (answer : Answer) (passed : Option (List Symbol)) → IsOuter x answer → by_answer answer [] passed ≡ Some s → IsAfter x s
+after_outer : (s : List Symbol) (x : Token) (answer : Answer) (passed : Option (List Symbol)) → IsOuter x answer → by_answer answer [] passed ≡ Some s
+    → IsAfter x s
 after_outer s x (Takes m) passed o h = let same : m ≡ s = sym (append-nil m) ∙ same_Some (m ++ []) s h in subst (λ (z : List Symbol). IsAfter x z) same o
 after_outer s x Passes passed o h = absurd o
 after_outer s x Stops passed o h = absurd (cc)
 
-after_by : (a : Symbol) (k s' : List Symbol) (x : Token) → IsDue (a ∷ k) → (IsDue k → next k x ≡ Some s' → IsAfter x s') → by_answer (rule a x) k (next k x) ≡ Some s' → IsAfter x s'
+after_by : (a : Symbol) (k s' : List Symbol) (x : Token) → IsDue (a ∷ k) → (IsDue k → next k x ≡ Some s' → IsAfter x s')
+    → by_answer (rule a x) k (next k x) ≡ Some s' → IsAfter x s'
 after_by a k s' x (inl h) ih e = after_inside a k s' x (is_end x) (rule a x) (next k x) refl (inside a x h.0) h.1 (ih h.1) e
 after_by a k s' x (inr h) ih e =
     after_outer s' x (rule a x) (next k x) (outer a x h.0) (subst (λ (q : List Symbol). by_answer (rule a x) q (next k x) ≡ Some s') h.1 e)

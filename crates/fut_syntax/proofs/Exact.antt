@@ -34,7 +34,8 @@ one_more x xs d h rest (z ∷ a) y b e =
     let tail : xs ≡ a ++ y ∷ b = cc in
     subst (λ (z : Token). is_full (open_after a (open_by z d)) y ≡ false) same (rest a y b tail)
 
-stop_here : (s : List Symbol) (d : ℕ) (x : Token) (xs : List Token) (left : ℕ) → Some (length xs) ≡ Some left → ((next s x ≡ None) ⊎ (is_full d x ≡ true)) → Stopped s d (x ∷ xs) left
+stop_here : (s : List Symbol) (d : ℕ) (x : Token) (xs : List Token) (left : ℕ) → Some (length xs) ≡ Some left → ((next s x ≡ None) ⊎ (is_full d x ≡ true))
+    → Stopped s d (x ∷ xs) left
 stop_here s d x xs left e bad = record {
   before = [];
   token = x;
@@ -80,7 +81,8 @@ walk_front (x ∷ p) q s due e =
     (r.0, ap (λ o. go_on o (λ s. walk s p)) m.1 ∙ r.1)
 
 -- where the machine stops it stops whatever stands behind
-free_stops : (p : List Token) (s due : List Symbol) (x : Token) (more : List Token) → walk s p ≡ Some due → next due x ≡ None → free s (p ++ x ∷ more) ≡ Some (length more)
+free_stops : (p : List Token) (s due : List Symbol) (x : Token) (more : List Token) → walk s p ≡ Some due → next due x ≡ None
+    → free s (p ++ x ∷ more) ≡ Some (length more)
 free_stops [] s due x more e h =
     let same : s ≡ due = cc in
     let none : next s x ≡ None = ap (λ (q : List Symbol). next q x) same ∙ h in
@@ -98,11 +100,13 @@ none_begins p due x walked none b =
     let clash : Some (length b.1) ≡ None = sym at ∙ sym same ∙ through in
     absurd (cc)
 
-bad_by : (p : List Token) (due : List Symbol) (x : Token) → walk (First ∷ []) p ≡ Some due → ((next due x ≡ None) ⊎ (is_full (open_after p 0) x ≡ true)) → IsBad p x
+bad_by : (p : List Token) (due : List Symbol) (x : Token) → walk (First ∷ []) p ≡ Some due → ((next due x ≡ None) ⊎ (is_full (open_after p 0) x ≡ true))
+    → IsBad p x
 bad_by p due x walked (inl none) = inl (none_begins p due x walked none)
 bad_by p due x walked (inr full) = inr full
 
-good_by : (p : List Token) (due : List Symbol) → walk (First ∷ []) p ≡ Some due → HasRoom p 0 → (a : List Token) (x : Token) (b : List Token) → p ≡ a ++ x ∷ b → IsGood a x
+good_by : (p : List Token) (due : List Symbol) → walk (First ∷ []) p ≡ Some due → HasRoom p 0 → (a : List Token) (x : Token) (b : List Token) → p ≡ a ++ x ∷ b
+    → IsGood a x
 good_by p due walked room a x b e =
     let parts : p ≡ (a ++ x ∷ []) ++ b = e ∙ sym (append_assoc a (x ∷ []) b) in
     let front = walk_front (a ++ x ∷ []) b (First ∷ []) due (sym (ap (λ q. walk (First ∷ []) q) parts) ∙ walked) in
@@ -123,7 +127,8 @@ fault xs left e =
     }
 
 run_none : (s : List Symbol) (d : ℕ) (x : Token) (xs : List Token) (o : Option (List Symbol)) (full : Bool) → is_full d x ≡ full
-    → run_on o full (length xs) (λ s. run is_full open_by s (open_by x d) xs) ≡ None → (is_full d x ≡ false) × (m : List Symbol) × (run64 m (open_by x d) xs ≡ None)
+    → run_on o full (length xs) (λ s. run is_full open_by s (open_by x d) xs) ≡ None
+    → (is_full d x ≡ false) × (m : List Symbol) × (run64 m (open_by x d) xs ≡ None)
 run_none s d x xs None full ef e = absurd (cc)
 run_none s d x xs (Some m) true ef e = absurd (cc)
 run_none s d x xs (Some m) false ef e = (ef, m, e)

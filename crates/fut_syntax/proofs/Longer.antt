@@ -2,8 +2,11 @@
 use Rattle.std.proofs.Common.{ℕ, zero, suc, ◌<◌, ◌≤◌, List, [], ◌∷◌, length, arith}
 use Rattle.fut_tokens.specs.declared.token.Token.{Token}
 use Rattle.fut_tokens.specs.declared.token.Token.TheVariants as t
-use Rattle.fut_syntax.specs.Trees.{Sign, NoSign, Negative, Inverted, Expr, Alone, Pair, Operand, Signed, Primary, Literal, Name, Bracket, Init, GetOf, CreateOf, Index, Value, VarType, Plain, Array, Stmt, Declare, Define, Assign, Store, SpawnOf, SyncAll, If', While', Return', Block, Done, Then, Tail, NoElse, ElseOf, Param, Item, CellsOf, TaskOf}
-use Rattle.fut_syntax.specs.Tokens.{op_token, sign_before, expr_before, operand_before, primary_before, more_before, args_before, init_before, type_before, var_type_before, stmt_before, block_before, tail_before, param_before, params_before, more_params_before, item_before}
+use Rattle.fut_syntax.specs.Trees.{Sign, NoSign, Negative, Inverted, Expr, Alone, Pair, Operand, Signed, Primary, Literal, Name, Bracket}
+use Rattle.fut_syntax.specs.Trees.{Init, GetOf, CreateOf, Index, Value, VarType, Plain, Array, Stmt, Declare, Define, Assign, Store, SpawnOf}
+use Rattle.fut_syntax.specs.Trees.{SyncAll, If', While', Return', Block, Done, Then, Tail, NoElse, ElseOf, Param, Item, CellsOf, TaskOf}
+use Rattle.fut_syntax.specs.Tokens.{op_token, sign_before, expr_before, operand_before, primary_before, more_before, args_before, init_before, type_before}
+use Rattle.fut_syntax.specs.Tokens.{var_type_before, stmt_before, block_before, tail_before, param_before, params_before, more_params_before, item_before}
 
 sign_longer : (s : Sign) (r : List Token) → length r ≤ length (sign_before s r)
 sign_longer NoSign r = omega arith

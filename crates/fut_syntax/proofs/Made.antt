@@ -3,7 +3,8 @@ use Rattle.std.proofs.Common.{◌≡◌, List, [], ◌∷◌, ◌++◌, refl, ap
 use mathlib.Core.Former.{Count}
 use Rattle.fut_syntax.specs.declared.tree.Expr.{Expr}
 use Rattle.fut_syntax.specs.declared.tree.Primary.{Bracket}
-use Rattle.fut_syntax.specs.declared.tree.Stmt.{Stmt, While, If, While', If', Row_of-Stmt, end_of-Stmt, more_of-Stmt, items-the_row-Stmt, items_hidden-the_row-Stmt-0}
+use Rattle.fut_syntax.specs.declared.tree.Stmt.{Stmt, While, If, While', If', Row_of-Stmt, end_of-Stmt}
+use Rattle.fut_syntax.specs.declared.tree.Stmt.{more_of-Stmt, items-the_row-Stmt, items_hidden-the_row-Stmt-0}
 use Rattle.fut_syntax.specs.declared.tree.Tail.{Tail, Else, Else'}
 use Rattle.fut_syntax.specs.Views.{expr_tree, primary_tree, stmt_tree, block_tree, row_tree, tail_tree, joined}
 use Rattle.fut_syntax.specs.Trees as trees

@@ -3,8 +3,12 @@ use Rattle.std.proofs.Common.{◌≡◌, ℕ, zero, suc, Bool, true, false, List
 use Rattle.std.specs.Prelude.{Some, None}
 use Rattle.fut_tokens.specs.declared.token.Token.{Token}
 use Rattle.fut_tokens.specs.declared.token.Token.TheVariants as t
-use Rattle.fut_syntax.specs.Trees.{Sign, NoSign, Negative, Inverted, Op, Expr, Alone, Pair, Operand, Signed, Primary, Literal, Name, Bracket, Init, GetOf, CreateOf, Index, Value, VarType, Plain, Array, Stmt, Declare, Define, Assign, Store, SpawnOf, SyncAll, If', While', Return', Block, Done, Then, Tail, NoElse, ElseOf, Param, Item, CellsOf, TaskOf, Program}
-use Rattle.fut_syntax.specs.Tokens.{op_token, sign_before, expr_before, operand_before, primary_before, more_before, args_before, init_before, type_before, var_type_before, stmt_before, block_before, tail_before, params_before, more_params_before, item_before, items_before, program_tokens}
+use Rattle.fut_syntax.specs.Trees.{Sign, NoSign, Negative, Inverted, Op, Expr, Alone, Pair, Operand, Signed, Primary, Literal, Name, Bracket}
+use Rattle.fut_syntax.specs.Trees.{Init, GetOf, CreateOf, Index, Value, VarType, Plain, Array, Stmt, Declare, Define, Assign, Store, SpawnOf}
+use Rattle.fut_syntax.specs.Trees.{SyncAll, If', While', Return', Block, Done, Then, Tail, NoElse, ElseOf, Param, Item, CellsOf, TaskOf, Program}
+use Rattle.fut_syntax.specs.Tokens.{op_token, sign_before, expr_before, operand_before, primary_before, more_before}
+use Rattle.fut_syntax.specs.Tokens.{args_before, init_before, type_before, var_type_before, stmt_before, block_before}
+use Rattle.fut_syntax.specs.Tokens.{tail_before, params_before, more_params_before, item_before, items_before, program_tokens}
 use Rattle.fut_syntax.specs.Machine.{Number', RightSquare', Operand', Block', Takes, Passes, op_of, after_op}
 use Rattle.fut_syntax.proofs.Through.{EndsExpr, EndsType, NoElseFirst, op_known, more_ends, params_end, block_no_else}
 
@@ -45,8 +49,10 @@ sign_once Inverted Inverted p q r s e = (refl, cc)
 mutual
   expr_once : (x y : Expr) (r s : List Token) → EndsExpr r → EndsExpr s → expr_before x r ≡ expr_before y s → Once x y r s
   expr_once (Alone o) (Alone p) r s hr hs e = let h = operand_once o p r s e in (cc, cc)
-  expr_once (Alone o) (Pair p op q) r s hr hs e = let h = operand_once o p r (op_token op ∷ operand_before q s) e in absurd (no_op op (operand_before q s) r hr h.1)
-  expr_once (Pair o op q) (Alone p) r s hr hs e = let h = operand_once o p (op_token op ∷ operand_before q r) s e in absurd (no_op op (operand_before q r) s hs (sym h.1))
+  expr_once (Alone o) (Pair p op q) r s hr hs e = let h =
+      operand_once o p r (op_token op ∷ operand_before q s) e in absurd (no_op op (operand_before q s) r hr h.1)
+  expr_once (Pair o op q) (Alone p) r s hr hs e = let h =
+      operand_once o p (op_token op ∷ operand_before q r) s e in absurd (no_op op (operand_before q r) s hs (sym h.1))
   expr_once (Pair o op q) (Pair p op' q') r s hr hs e =
       let h = operand_once o p (op_token op ∷ operand_before q r) (op_token op' ∷ operand_before q' s) e in
       let same = op_once op op' (operand_before q r) (operand_before q' s) h.1 in
@@ -170,7 +176,8 @@ no_else_first : (r m : List Token) → NoElseFirst r → r ≡ t.Else ∷ m → 
 no_else_first r m h e = let k : Takes (Block' ∷ []) ≡ Passes = subst NoElseFirst e h in absurd (cc)
 
 -- the two forms of `var`
-declare_define : (v v' : VarType) (i : Init) (r s : List Token) → var_type_before v (t.Semicolon ∷ r) ≡ var_type_before v' (t.Equals ∷ init_before i (t.Semicolon ∷ s)) → ⊥
+declare_define : (v v' : VarType) (i : Init) (r s : List Token) → var_type_before v (t.Semicolon ∷ r)
+    ≡ var_type_before v' (t.Equals ∷ init_before i (t.Semicolon ∷ s)) → ⊥
 declare_define v v' i r s e =
     let k = var_type_once v v' (t.Semicolon ∷ r) (t.Equals ∷ init_before i (t.Semicolon ∷ s)) refl refl e in
     let l = k.1 in absurd (cc)
@@ -185,7 +192,8 @@ mutual
       let k = init_once i j r s (cc) in (cc, cc)
   stmt_once (Assign w i) (Assign v j) r s hr hs e = let h = init_once i j r s (cc) in (cc, cc)
   stmt_once (Store w a b) (Store w' a' b') r s hr hs e =
-      let h = expr_once a a' (t.RightSquare ∷ t.Equals ∷ expr_before b (t.Semicolon ∷ r)) (t.RightSquare ∷ t.Equals ∷ expr_before b' (t.Semicolon ∷ s)) refl refl (cc) in
+      let h = expr_once a a' (t.RightSquare ∷ t.Equals ∷ expr_before b (t.Semicolon ∷ r))
+      (t.RightSquare ∷ t.Equals ∷ expr_before b' (t.Semicolon ∷ s)) refl refl (cc) in
       let k = expr_once b b' (t.Semicolon ∷ r) (t.Semicolon ∷ s) refl refl (cc) in (cc, cc)
   stmt_once (SpawnOf w es) (SpawnOf v fs) r s hr hs e = let h = args_once es fs (t.Semicolon ∷ r) (t.Semicolon ∷ s) (cc) in (cc, cc)
   stmt_once SyncAll SyncAll r s hr hs e = (refl, cc)

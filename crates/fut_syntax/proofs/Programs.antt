@@ -1,7 +1,7 @@
 -- Texts have one tree at most, and none where they have a fault place. A tree's canonical text has this tree.
 use Rattle.std.proofs.Common.{◌≡◌, ℕ, false, List, [], ◌∷◌, map, sym, ap, ◌∙◌, subst, Result, Ok, Err}
 use Rattle.std.specs.Prelude.{Some}
-use Rattle.fut_tokens.specs.declared.token.Place.{Place}
+use Rattle.fut_tokens.specs.declared.token.Position.{Position}
 use Rattle.fut_syntax.specs.Trees.{Item, CellsOf, TaskOf, Program}
 use Rattle.fut_syntax.specs.Faults.{IsFault}
 use Rattle.fut_syntax.specs.Texts.{IsProgram, IsFaultPlace, Parses}
@@ -25,7 +25,7 @@ one_program bytes P Q p q =
     let same = (tokens_once bytes p.tokens q.tokens p.places q.places p.cut q.cut).0 in
     program_once P Q (p.whole.0 ∙ (same ∙ sym q.whole.0))
 
-pub no_faulty_program : (bytes : List ℕ) (place : Place) (P : Program) → IsFaultPlace bytes place → IsProgram bytes P → ⊥
+pub no_faulty_program : (bytes : List ℕ) (place : Position) (P : Program) → IsFaultPlace bytes place → IsProgram bytes P → ⊥
 no_faulty_program bytes place P f p =
     let same = (tokens_once bytes f.tokens p.tokens f.places p.places f.cut p.cut).0 in
     no_fault p.tokens P f.left p.whole (subst (λ xs. IsFault xs f.left) same f.fault)

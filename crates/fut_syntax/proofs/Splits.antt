@@ -3,7 +3,8 @@ use Rattle.std.proofs.Common.{◌≡◌, ℕ, Bool, List, [], ◌∷◌, ◌++�
 use Rattle.std.specs.Prelude.{Option, Some}
 use Rattle.fut_tokens.specs.declared.token.Token.{Token}
 use Rattle.fut_tokens.specs.declared.token.Token.TheVariants as t
-use Rattle.fut_syntax.specs.Machine.{Symbol, Expr', ExprTail, Operand', Answer, Takes, Passes, Stops, then_due, operand_rule, expr_rule, rule, by_answer, next, run_on, run}
+use Rattle.fut_syntax.specs.Machine.{Symbol, Expr', ExprTail, Operand', Answer, Takes, Passes, Stops}
+use Rattle.fut_syntax.specs.Machine.{then_due, operand_rule, expr_rule, rule, by_answer, next, run_on, run}
 
 -- an answer that isn't a pass
 abbrev pub IsFirm : Answer → Type 0
@@ -29,10 +30,12 @@ module _ (full : ℕ → Token → Bool) (by : Token → ℕ → ℕ) where
 
   pub expr_split : (k : List Symbol) (d : ℕ) (xs : List Token) → run full by (Expr' ∷ k) d xs ≡ run full by (Operand' ∷ ExprTail ∷ k) d xs
   expr_split k d [] = refl
-  expr_split k d (x ∷ xs) = same_next (Expr' ∷ k) (Operand' ∷ ExprTail ∷ k) d x xs (then_split (operand_rule x) (ExprTail ∷ []) k (next k x) (next (ExprTail ∷ k) x) (operand_firm x))
+  expr_split k d (x ∷ xs) =
+      same_next (Expr' ∷ k) (Operand' ∷ ExprTail ∷ k) d x xs (then_split (operand_rule x) (ExprTail ∷ []) k (next k x) (next (ExprTail ∷ k) x) (operand_firm x))
 
   -- a symbol that passes a token
-  pub passes : (a : Symbol) (k : List Symbol) (d : ℕ) (x : Token) (xs : List Token) → rule a x ≡ Passes → run full by (a ∷ k) d (x ∷ xs) ≡ run full by k d (x ∷ xs)
+  pub passes : (a : Symbol) (k : List Symbol) (d : ℕ) (x : Token) (xs : List Token) → rule a x ≡ Passes
+      → run full by (a ∷ k) d (x ∷ xs) ≡ run full by k d (x ∷ xs)
   passes a k d x xs e = same_next (a ∷ k) k d x xs (ap (λ b. by_answer b k (next k x)) e)
 
   -- a symbol that stops at a token

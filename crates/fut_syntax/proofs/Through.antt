@@ -3,9 +3,15 @@ use Rattle.std.proofs.Common.{◌≡◌, ℕ, zero, suc, false, List, [], ◌∷
 use Rattle.std.specs.Prelude.{Option, Some, None}
 use Rattle.fut_tokens.specs.declared.token.Token.{Token}
 use Rattle.fut_tokens.specs.declared.token.Token.TheVariants as t
-use Rattle.fut_syntax.specs.Trees.{NoSign, Negative, Inverted, Op, Add, Subtract, Multiply, Divide, Remainder, BitAnd, BitOr, Equal, Unequal, Less, AtMost, Greater, AtLeast, Expr, Alone, Pair, Operand, Signed, Primary, Literal, Name, Bracket, Init, GetOf, CreateOf, Index, Value, VarType, Plain, Array, Stmt, Declare, Define, Assign, Store, SpawnOf, SyncAll, If', While', Return', Block, Done, Then, Tail, NoElse, ElseOf, Param, Item, CellsOf, TaskOf, Program}
-use Rattle.fut_syntax.specs.Tokens.{op_token, expr_before, operand_before, primary_before, more_before, args_before, init_before, type_before, var_type_before, stmt_before, block_before, tail_before, params_before, more_params_before, item_before, items_before, program_tokens}
-use Rattle.fut_syntax.specs.Machine.{Symbol, First, More, Params, ParamsTail, Type', Length, Block', Stmts, Else', VarInit, Init', InitTail, Args, ArgsTail, Expr', ExprTail, Operand', Primary', RightParen', RightSquare', Semicolon', Equals', Passes, op_of, after_op, expr_tail_rule, init_tail_rule, length_rule, else_rule, rule, by_answer, next, run_on, free}
+use Rattle.fut_syntax.specs.Trees.{NoSign, Negative, Inverted, Op, Add, Subtract, Multiply, Divide, Remainder, BitAnd, BitOr, Equal, Unequal}
+use Rattle.fut_syntax.specs.Trees.{Less, AtMost, Greater, AtLeast, Expr, Alone, Pair, Operand, Signed, Primary, Literal, Name, Bracket, Init}
+use Rattle.fut_syntax.specs.Trees.{GetOf, CreateOf, Index, Value, VarType, Plain, Array, Stmt, Declare, Define, Assign, Store, SpawnOf, SyncAll}
+use Rattle.fut_syntax.specs.Trees.{If', While', Return', Block, Done, Then, Tail, NoElse, ElseOf, Param, Item, CellsOf, TaskOf, Program}
+use Rattle.fut_syntax.specs.Tokens.{op_token, expr_before, operand_before, primary_before, more_before, args_before, init_before, type_before, var_type_before}
+use Rattle.fut_syntax.specs.Tokens.{stmt_before, block_before, tail_before, params_before, more_params_before, item_before, items_before, program_tokens}
+use Rattle.fut_syntax.specs.Machine.{Symbol, First, More, Params, ParamsTail, Type', Length, Block', Stmts, Else', VarInit, Init', InitTail, Args}
+use Rattle.fut_syntax.specs.Machine.{ArgsTail, Expr', ExprTail, Operand', Primary', RightParen', RightSquare', Semicolon', Equals', Passes, op_of}
+use Rattle.fut_syntax.specs.Machine.{after_op, expr_tail_rule, init_tail_rule, length_rule, else_rule, rule, by_answer, next, run_on, free}
 use Rattle.fut_syntax.proofs.Splits as splits
 
 split_expr : (k : List Symbol) (xs : List Token) → free (Expr' ∷ k) xs ≡ free (Operand' ∷ ExprTail ∷ k) xs
@@ -123,7 +129,8 @@ args_through (e ∷ es) k r = args_first e k (more_before es r) ∙ expr_through
 
 word_tail : (op : Op) (k : List Symbol) (m : List Token) → free (InitTail ∷ k) (op_token op ∷ m) ≡ free (Operand' ∷ k) m
 word_tail op k m =
-    splits.same_next (λ d x. false) (λ x d. d) (InitTail ∷ k) (ExprTail ∷ k) 0 (op_token op) m (ap (λ b. by_answer b k (next k (op_token op))) (init_tail_op op))
+    splits.same_next (λ d x. false) (λ x d. d) (InitTail ∷ k) (ExprTail ∷ k) 0 (op_token op) m
+    (ap (λ b. by_answer b k (next k (op_token op))) (init_tail_op op))
     ∙ op_through op k m
 
 init_through : (i : Init) (k : List Symbol) (r : List Token) → free (Init' ∷ k) (init_before i (t.Semicolon ∷ r)) ≡ free k (t.Semicolon ∷ r)

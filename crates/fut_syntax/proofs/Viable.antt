@@ -3,9 +3,18 @@ use Rattle.std.proofs.Common.{◌≡◌, ℕ, zero, suc, true, List, [], ◌∷�
 use Rattle.std.specs.Prelude.{Option, Some, None}
 use Rattle.fut_tokens.specs.declared.token.Token.{Token}
 use Rattle.fut_tokens.specs.declared.token.Token.TheVariants as t
-use Rattle.fut_syntax.specs.Trees.{NoSign, Negative, Inverted, Add, Subtract, Multiply, Divide, Remainder, BitAnd, BitOr, Equal, Unequal, Less, AtMost, Greater, AtLeast, Expr, Alone, Pair, Operand, Signed, Literal, Name, Bracket, GetOf, CreateOf, Index, Value, VarType, Plain, Array, Stmt, Declare, Define, Assign, Store, SpawnOf, SyncAll, If', While', Return', Done, Then, NoElse, ElseOf, Param, CellsOf, TaskOf}
+use Rattle.fut_syntax.specs.Trees.{NoSign, Negative, Inverted, Add, Subtract, Multiply, Divide, Remainder, BitAnd, BitOr, Equal}
+use Rattle.fut_syntax.specs.Trees.{Unequal, Less, AtMost, Greater, AtLeast, Expr, Alone, Pair, Operand, Signed, Literal, Name}
+use Rattle.fut_syntax.specs.Trees.{Bracket, GetOf, CreateOf, Index, Value, VarType, Plain, Array, Stmt, Declare, Define, Assign}
+use Rattle.fut_syntax.specs.Trees.{Store, SpawnOf, SyncAll, If', While', Return', Done, Then, NoElse, ElseOf, Param, CellsOf, TaskOf}
 use Rattle.fut_syntax.specs.Tokens.{expr_before, operand_before, type_before, var_type_before, stmt_before, program_before}
-use Rattle.fut_syntax.specs.Machine.{Symbol, First, More, Params, ParamsTail, Type', Length, Block', Stmts, Else', VarInit, WordStmt, Init', InitTail, Args, ArgsTail, Expr', ExprTail, Operand', Primary', Word', Number', LeftParen', RightParen', LeftSquare', RightSquare', Semicolon', Colon', Equals', Answer, Takes, Passes, Stops, then_due, primary_rule, operand_rule, expr_rule, expr_tail_rule, args_tail_rule, args_rule, init_rule, init_tail_rule, type_rule, length_rule, var_init_rule, word_stmt_rule, stmts_rule, block_rule, else_rule, params_rule, params_tail_rule, first_rule, more_rule, word_rule, number_rule, left_paren_rule, right_paren_rule, left_square_rule, right_square_rule, semicolon_rule, colon_rule, equals_rule, rule, by_answer, next, go_on, walk}
+use Rattle.fut_syntax.specs.Machine.{Symbol, First, More, Params, ParamsTail, Type', Length, Block', Stmts, Else', VarInit, WordStmt, Init'}
+use Rattle.fut_syntax.specs.Machine.{InitTail, Args, ArgsTail, Expr', ExprTail, Operand', Primary', Word', Number', LeftParen', RightParen'}
+use Rattle.fut_syntax.specs.Machine.{LeftSquare', RightSquare', Semicolon', Colon', Equals', Answer, Takes, Passes, Stops, then_due, primary_rule}
+use Rattle.fut_syntax.specs.Machine.{operand_rule, expr_rule, expr_tail_rule, args_tail_rule, args_rule, init_rule, init_tail_rule, type_rule}
+use Rattle.fut_syntax.specs.Machine.{length_rule, var_init_rule, word_stmt_rule, stmts_rule, block_rule, else_rule, params_rule, params_tail_rule}
+use Rattle.fut_syntax.specs.Machine.{first_rule, more_rule, word_rule, number_rule, left_paren_rule, right_paren_rule, left_square_rule}
+use Rattle.fut_syntax.specs.Machine.{right_square_rule, semicolon_rule, colon_rule, equals_rule, rule, by_answer, next, go_on, walk}
 use Rattle.fut_syntax.specs.Phrases.{Phrase, Phrases, IsExprTail, IsLength, IsVarInit, IsWordStmt}
 use Rattle.fut_syntax.specs.Faults.{IsBegun, all_simple}
 use Rattle.fut_syntax.proofs.Splits.{IsFirm, expr_firm}
@@ -128,7 +137,8 @@ word_stmt_builds t.Equals = λ xs r h. inl (h.1.0, cc)
 word_stmt_builds t.LeftSquare = λ xs r h. inr (h.1.0, h.2.2.2.1.0, cc)
 word_stmt_builds _ = tt
 
-var_stmt_of : (w : List ℕ) (v : VarType) (xs m r : List Token) → xs ≡ t.Word w ∷ t.Colon ∷ var_type_before v m → IsVarInit m (t.Semicolon ∷ r) → (s : Stmt) × (t.Var ∷ xs ≡ stmt_before s r)
+var_stmt_of : (w : List ℕ) (v : VarType) (xs m r : List Token) → xs ≡ t.Word w ∷ t.Colon ∷ var_type_before v m → IsVarInit m (t.Semicolon ∷ r)
+    → (s : Stmt) × (t.Var ∷ xs ≡ stmt_before s r)
 var_stmt_of w v xs m r e (inl same) = (Declare w v, cc)
 var_stmt_of w v xs m r e (inr i) = (Define w v i.0, cc)
 
@@ -272,7 +282,8 @@ next_back : (s : List Symbol) (x : Token) (s' : List Symbol) → next s x ≡ So
 next_back [] x s' e = absurd (cc)
 next_back (a ∷ k) x s' e = answer_back a k x (rule a x) (next k x) (builds a x) (next_back k x) s' e
 
-pub walk_some : (xs : List Token) (o : Option (List Symbol)) (s' : List Symbol) → go_on o (λ s. walk s xs) ≡ Some s' → (m : List Symbol) × (o ≡ Some m) × (walk m xs ≡ Some s')
+pub walk_some : (xs : List Token) (o : Option (List Symbol)) (s' : List Symbol) → go_on o (λ s. walk s xs) ≡ Some s'
+    → (m : List Symbol) × (o ≡ Some m) × (walk m xs ≡ Some s')
 walk_some xs None s' e = absurd (cc)
 walk_some xs (Some m) s' e = (m, refl, e)
 

@@ -19,7 +19,8 @@ pub spells_end : (xs ys : List Token) (is : List Item) → SpellsMore xs ys is �
 spells_end xs ys [] h e = absurd h
 spells_end xs ys (i ∷ is) h e = h [] [] e ∙ ap (λ q. item_before (item_tree i) (items_before q [])) (append-nil (items_tree is))
 
-pub spells_next : (xs ys zs : List Token) (is : List Item) (i : Item) → SpellsMore xs ys is → ys ≡ item_before (item_tree i) zs → SpellsMore xs zs (is ++ i ∷ [])
+pub spells_next : (xs ys zs : List Token) (is : List Item) (i : Item) → SpellsMore xs ys is → ys ≡ item_before (item_tree i) zs
+    → SpellsMore xs zs (is ++ i ∷ [])
 spells_next xs ys zs [] i h g = absurd h
 spells_next xs ys zs (x ∷ is) i h g = λ rest r z.
     h (item_tree i ∷ rest) r (g ∙ ap (λ q. item_before (item_tree i) q) z)

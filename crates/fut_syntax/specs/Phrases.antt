@@ -3,8 +3,11 @@ use Rattle.std.specs.Prelude.{◌≡◌, ℕ, ◌⊎◌, List, [], ◌∷◌}
 use Rattle.fut_tokens.specs.declared.token.Token.{Token}
 use Rattle.fut_tokens.specs.declared.token.Token.TheVariants as t
 use Rattle.fut_syntax.specs.Trees.{Op, Expr, Operand, Primary, Init, Block, Tail, Param, Item, Program}
-use Rattle.fut_syntax.specs.Tokens.{op_token, expr_before, operand_before, primary_before, more_before, args_before, init_before, type_before, block_before, tail_before, params_before, more_params_before, items_before, program_before}
-use Rattle.fut_syntax.specs.Machine.{Symbol, First, More, Params, ParamsTail, Type', Length, Block', Stmts, Else', VarInit, WordStmt, Init', InitTail, Args, ArgsTail, Expr', ExprTail, Operand', Primary', Word', Number', LeftParen', RightParen', LeftSquare', RightSquare', Semicolon', Colon', Equals'}
+use Rattle.fut_syntax.specs.Tokens.{op_token, expr_before, operand_before, primary_before, more_before, args_before, init_before, type_before}
+use Rattle.fut_syntax.specs.Tokens.{block_before, tail_before, params_before, more_params_before, items_before, program_before}
+use Rattle.fut_syntax.specs.Machine.{Symbol, First, More, Params, ParamsTail, Type', Length, Block', Stmts, Else', VarInit}
+use Rattle.fut_syntax.specs.Machine.{WordStmt, Init', InitTail, Args, ArgsTail, Expr', ExprTail, Operand', Primary', Word'}
+use Rattle.fut_syntax.specs.Machine.{Number', LeftParen', RightParen', LeftSquare', RightSquare', Semicolon', Colon', Equals'}
 
 -- an operator and its right operand, or nothing
 abbrev pub IsExprTail : List Token → List Token → Type 0

@@ -1,6 +1,6 @@
 -- Laws of texts.
 use Rattle.std.specs.Prelude.{◌≡◌, ℕ, false, List, Some, Result, Ok, Err}
-use Rattle.fut_tokens.specs.declared.token.Place.{Place}
+use Rattle.fut_tokens.specs.declared.token.Position.{Position}
 use Rattle.fut_syntax.specs.declared.program.ParseFault.{ParseFault}
 use Rattle.fut_syntax.specs.declared.program.ParseFault.TheVariants as fault
 use Rattle.fut_syntax.specs.declared.tree.Program as declared
@@ -16,7 +16,7 @@ OneProgram = (bytes : List ℕ) (P Q : Program) → IsProgram bytes P → IsProg
 
 -- a text with a fault place is no program
 abbrev pub NoFaultyProgram : Type 0
-NoFaultyProgram = (bytes : List ℕ) (place : Place) (P : Program) → IsFaultPlace bytes place → IsProgram bytes P → ⊥
+NoFaultyProgram = (bytes : List ℕ) (place : Position) (P : Program) → IsFaultPlace bytes place → IsProgram bytes P → ⊥
 
 -- the canonical text of a program is a text of this program, and has no comment
 abbrev pub PrintedReads : Type 0

@@ -4,7 +4,8 @@ ghost use Rattle.fut_tokens.specs.declared.token.Token.TheVariants as t;
 ghost use Rattle.fut_syntax.specs.Tokens.{param_before, params_before, item_before};
 ghost use Rattle.fut_syntax.specs.Views.{param_tree, params_tree, item_tree};
 ghost use Rattle.fut_syntax.specs.Steps.{ReadTo, ReadOn, Parsed};
-ghost use Rattle.fut_syntax.specs.Machine.{First, More, Params, Type', Length, Block', Word', Number', Colon', Semicolon', LeftParen', LeftSquare', RightSquare'};
+ghost use Rattle.fut_syntax.specs.Machine.{First, More, Params, Type', Length, Block', Word', Number'};
+ghost use Rattle.fut_syntax.specs.Machine.{Colon', Semicolon', LeftParen', LeftSquare', RightSquare'};
 
 use crate::cursor::{Cursor, Stop};
 use crate::signs::{close_square, colon, number, open_paren, open_square, semicolon, word};

@@ -5,7 +5,7 @@ ghost use Rattle.fut_syntax.specs.Texts.{Parses};
 use crate::parser::{TokenFault, parse_tokens};
 use crate::tree::Program;
 use fut_base::list::NoMemory;
-use fut_tokens::token::Place;
+use fut_tokens::token::Position;
 use fut_tokens::{Lexed, tokens};
 use sqlite_items::Items;
 use std::alloc::Global;
@@ -42,7 +42,7 @@ pub fn parse(alloc: Global, text: &[u8]) -> Result<Program, ParseFault>
             comments,
         }),
         Err(TokenFault::Syntax { left }) => {
-            let Place { line, column } = places[places.len() - 1 - left];
+            let Position { line, column } = places[places.len() - 1 - left];
             Err(ParseFault::Syntax { line, column })
         }
         Err(TokenFault::NoMemory) => Err(ParseFault::NoMemory),

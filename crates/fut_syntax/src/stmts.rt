@@ -5,7 +5,8 @@ ghost use Rattle.fut_syntax.specs.Trees as trees;
 ghost use Rattle.fut_syntax.specs.Tokens.{stmt_before, tail_before};
 ghost use Rattle.fut_syntax.specs.Views.{expr_tree, stmt_tree, block_tree, tail_tree};
 ghost use Rattle.fut_syntax.specs.Steps.{Read, ReadTo, ReadOn, braced, set_before, front, is_close, has_block};
-ghost use Rattle.fut_syntax.specs.Machine.{Block', Stmts, Else', WordStmt, VarInit, Type', Length, Init', Args, Expr', Word', LeftParen', Semicolon', Colon', Equals'};
+ghost use Rattle.fut_syntax.specs.Machine.{Block', Stmts, Else', WordStmt, VarInit, Type', Length, Init'};
+ghost use Rattle.fut_syntax.specs.Machine.{Args, Expr', Word', LeftParen', Semicolon', Colon', Equals'};
 
 use crate::cursor::{Cursor, Stop};
 use crate::exprs::expr;

@@ -1,5 +1,5 @@
 //! The trees of programs.
-use fut_tokens::token::Place;
+use fut_tokens::token::Position;
 use sqlite_items::{Boxed, Items};
 
 /// The sign before an operand.
@@ -106,6 +106,6 @@ pub enum Item {
 #[derive(Drop)]
 pub struct Program {
     pub items: Items<Item>,
-    pub places: Items<Place>,
+    pub places: Items<Position>,
     pub comments: bool,
 }

@@ -6,7 +6,7 @@ use Rattle.std.proofs.Math.Seq.{take-add}
 use Rattle.std.proofs.Math.Bool.{or_assoc, or-false}
 use Rattle.fut_tokens.specs.declared.token.Token.{Token}
 use Rattle.fut_tokens.specs.declared.token.Token.TheVariants as t
-use Rattle.fut_tokens.specs.declared.token.Place.{Place}
+use Rattle.fut_tokens.specs.declared.token.Position.{Position}
 use Rattle.fut_tokens.specs.declared.lexer.Part.{Part}
 use Rattle.fut_tokens.specs.declared.lexer.Part.TheVariants as part
 use Rattle.fut_tokens.specs.Cut.{Piece, Space, Comment, Lexeme, bytes_of, Fits, IsCut}
@@ -17,13 +17,14 @@ use Rattle.fut_tokens.specs.Parts.{IsPart, IsSort}
 use Rattle.fut_tokens.proofs.Cuts.{cut_once}
 use Rattle.fut_tokens.proofs.Never.{ended}
 
-pub begun_start : (text : List ℕ) (tokens : List Token) (places : List Place) → tokens ≡ [] → places ≡ [] → IsBegun text 0 tokens places false
+pub begun_start : (text : List ℕ) (tokens : List Token) (places : List Position) → tokens ≡ [] → places ≡ [] → IsBegun text 0 tokens places false
 begun_start text tokens places a b = record {
   goes = λ ps c. record { pieces = ps; cut = c; are = ap (λ q. q ++ tokens_of ps) a; stand = ap (λ q. q ++ places_of [] ps) b };
   told = λ ps c qs d. ap has_comment (cut_once qs ps text d c);
 }
 
-cut_on : (text : List ℕ) (at n : ℕ) (p : Piece) (ps : List Piece) → bytes_of p ≡ take n (drop at text) → Fits p (drop n (drop at text)) → IsCut (drop (at + n) text) ps → IsCut (drop at text) (p ∷ ps)
+cut_on : (text : List ℕ) (at n : ℕ) (p : Piece) (ps : List Piece) → bytes_of p ≡ take n (drop at text) → Fits p (drop n (drop at text))
+    → IsCut (drop (at + n) text) ps → IsCut (drop at text) (p ∷ ps)
 cut_on text at n p ps b f c = (
   drop n (drop at text),
   sym (take-append-drop n (drop at text)) ∙ ap (λ q. q ++ drop n (drop at text)) (sym b),
@@ -36,7 +37,8 @@ tokens_on part.Space p ps s = ap (λ q. tokens_of (q ∷ ps)) s.1
 tokens_on part.Comment p ps s = ap (λ q. tokens_of (q ∷ ps)) s.1
 tokens_on (part.Lexeme x) p ps s = ap (λ q. tokens_of (q ∷ ps)) s.1
 
-places_on : (place : Place) (before : List ℕ) (x : Part) (p : Piece) (ps : List Piece) → place ≡ place_after before → IsSort x p → places_of before (p ∷ ps) ≡ places_in place x ++ places_of (before ++ bytes_of p) ps
+places_on : (place : Position) (before : List ℕ) (x : Part) (p : Piece) (ps : List Piece) → place ≡ place_after before → IsSort x p
+    → places_of before (p ∷ ps) ≡ places_in place x ++ places_of (before ++ bytes_of p) ps
 places_on place before part.Space p ps e s = ap (λ q. places_of before (q ∷ ps)) s.1 ∙ ap (λ q. places_of (before ++ bytes_of q) ps) (sym s.1)
 places_on place before part.Comment p ps e s = ap (λ q. places_of before (q ∷ ps)) s.1 ∙ ap (λ q. places_of (before ++ bytes_of q) ps) (sym s.1)
 places_on place before (part.Lexeme x) p ps e s =
@@ -50,14 +52,18 @@ comment_on part.Comment p ps s = ap (λ q. has_comment (q ∷ ps)) s.1
 comment_on (part.Lexeme x) p ps s = ap (λ q. has_comment (q ∷ ps)) s.1
 
 -- one part more
-pub begun_on : (text : List ℕ) (at n : ℕ) (x : Part) (place : Place) (tokens tokens' : List Token) (places places' : List Place) (comments comments' : Bool) → IsPart (drop at text) x n → IsBegun text at tokens places comments → place ≡ place_after (take at text) → tokens' ≡ tokens ++ tokens_in x → places' ≡ places ++ places_in place x → comments' ≡ (comments || is_comment x) → IsBegun text (at + n) tokens' places' comments'
+pub begun_on : (text : List ℕ) (at n : ℕ) (x : Part) (place : Position) (tokens tokens' : List Token) (places places' : List Position)
+    (comments comments' : Bool) → IsPart (drop at text) x n → IsBegun text at tokens places comments → place ≡ place_after (take at text)
+    → tokens' ≡ tokens ++ tokens_in x → places' ≡ places ++ places_in place x → comments' ≡ (comments || is_comment x)
+    → IsBegun text (at + n) tokens' places' comments'
 begun_on text at n x place tokens tokens' places places' comments comments' p b e et ep ec = record {
   goes = λ ps c.
       let h = b.goes (p.piece ∷ ps) (cut_on text at n p.piece ps p.bytes p.fits c) in
       record {
         pieces = h.pieces;
         cut = h.cut;
-        are = ap (λ q. q ++ tokens_of ps) et ∙ append_assoc tokens (tokens_in x) (tokens_of ps) ∙ ap (λ q. tokens ++ q) (sym (tokens_on x p.piece ps p.sort)) ∙ h.are;
+        are = ap (λ q. q ++ tokens_of ps) et ∙ append_assoc tokens (tokens_in x) (tokens_of ps) ∙ ap (λ q. tokens ++ q) (sym (tokens_on x p.piece ps p.sort))
+            ∙ h.are;
         stand =
             ap (λ q. q ++ places_of (take (at + n) text) ps) ep
             ∙ append_assoc places (places_in place x) (places_of (take (at + n) text) ps)
@@ -80,16 +86,18 @@ same_length before (Comment c ∷ ps) = same_length (before ++ 47 ∷ 47 ∷ c) 
 same_length before (Lexeme bs x ∷ ps) = ap (λ n. suc n) (same_length (before ++ bs) ps)
 
 -- the whole text was cut
-pub record IsWhole (text : List ℕ) (tokens : List Token) (places : List Place) (comments : Bool) : Type 0 where
+pub record IsWhole (text : List ℕ) (tokens : List Token) (places : List Position) (comments : Bool) : Type 0 where
   pub of : IsTokensOf text tokens places
   pub ends : IsEnded tokens
   pub paired : length places ≡ length tokens
   pub told : HasComments text comments
 
-tokens_end : (text : List ℕ) (tokens : List Token) (places : List Place) → IsTokensOf text tokens places → IsEnded tokens
+tokens_end : (text : List ℕ) (tokens : List Token) (places : List Position) → IsTokensOf text tokens places → IsEnded tokens
 tokens_end text tokens places h = subst IsEnded (sym h.are) (ended h.pieces text h.cut)
 
-pub begun_end : (text : List ℕ) (at : ℕ) (place : Place) (tokens tokens' : List Token) (places places' : List Place) (comments comments' : Bool) → length text ≤ at → IsBegun text at tokens places comments → place ≡ place_after (take at text) → tokens' ≡ tokens ++ t.End ∷ [] → places' ≡ places ++ place ∷ [] → comments' ≡ comments → IsWhole text tokens' places' comments'
+pub begun_end : (text : List ℕ) (at : ℕ) (place : Position) (tokens tokens' : List Token) (places places' : List Position) (comments comments' : Bool)
+    → length text ≤ at → IsBegun text at tokens places comments → place ≡ place_after (take at text) → tokens' ≡ tokens ++ t.End ∷ []
+    → places' ≡ places ++ place ∷ [] → comments' ≡ comments → IsWhole text tokens' places' comments'
 begun_end text at place tokens tokens' places places' comments comments' past b e et ep ec =
     let h = b.goes [] (drop_all at text past) in
     let of : IsTokensOf text tokens' places' = record {

@@ -3,8 +3,9 @@ use Rattle.std.proofs.Common.{◌≡◌, ℕ, true, false, List, [], ◌∷◌, 
 use Rattle.std.specs.Prelude.{Some, None, ◌&&◌}
 use Rattle.std.proofs.lemmas.Bool.{and_parts}
 use Rattle.fut_tokens.specs.declared.token.Token.{Token}
-use Rattle.fut_tokens.specs.Cut.{token_of, token_by, IsLongest, Blank, class_of, is_blank, is_inline, each, EndsLine, starts_comment, Piece, Space, Comment, Lexeme, bytes_of, Fits, IsCut}
-use Rattle.fut_tokens.specs.declared.token.Place.{Place}
+use Rattle.fut_tokens.specs.Cut.{token_of, token_by, IsLongest, Blank, class_of, is_blank, is_inline, each}
+use Rattle.fut_tokens.specs.Cut.{EndsLine, starts_comment, Piece, Space, Comment, Lexeme, bytes_of, Fits, IsCut}
+use Rattle.fut_tokens.specs.declared.token.Position.{Position}
 use Rattle.fut_tokens.specs.Lexed.{tokens_of, places_of, IsTokensOf}
 use Rattle.fut_tokens.proofs.Tests.{blank_class}
 
@@ -25,7 +26,8 @@ compare (x ∷ a) (y ∷ b) r s e = lift (compare a b r s (cc))
     lift (inr (inr h)) = inr (inr (h.0, h.1, cc, h.3))
 
 -- two longest tokens at one place are one
-token_once : (a b r s : List ℕ) (k l : Token) → a ++ r ≡ b ++ s → token_of a ≡ Some k → token_of b ≡ Some l → IsLongest a r → IsLongest b s → (a ≡ b) × (k ≡ l) × (r ≡ s)
+token_once : (a b r s : List ℕ) (k l : Token) → a ++ r ≡ b ++ s → token_of a ≡ Some k → token_of b ≡ Some l → IsLongest a r → IsLongest b s
+    → (a ≡ b) × (k ≡ l) × (r ≡ s)
 token_once a b r s k l e ka kb la lb = by (compare a b r s e)
   where
     by : ((a ≡ b) × (r ≡ s)) ⊎ Shorter a b r s ⊎ Shorter b a s r → (a ≡ b) × (k ≡ l) × (r ≡ s)
@@ -84,7 +86,7 @@ cut_once (p ∷ ps) (q ∷ qs) bytes f g =
     let h = piece_once p q f.0 g.0 f.2 g.2 (sym f.1 ∙ g.1) in
     let k = cut_once ps qs f.0 f.3 (subst (λ (r : List ℕ). IsCut r qs) (sym h.1) g.3) in (cc)
 
-pub tokens_once : (bytes : List ℕ) (xs ys : List Token) (ps qs : List Place) → IsTokensOf bytes xs ps → IsTokensOf bytes ys qs → (xs ≡ ys) × (ps ≡ qs)
+pub tokens_once : (bytes : List ℕ) (xs ys : List Token) (ps qs : List Position) → IsTokensOf bytes xs ps → IsTokensOf bytes ys qs → (xs ≡ ys) × (ps ≡ qs)
 tokens_once bytes xs ys ps qs f g =
     let e = cut_once f.pieces g.pieces bytes f.cut g.cut in
     (f.are ∙ ap tokens_of e ∙ sym g.are, f.stand ∙ ap (places_of []) e ∙ sym g.stand)

@@ -4,10 +4,11 @@ use Rattle.std.specs.Prelude.{Option, Some, None, nat_eq, ◌&&◌, if◌then◌
 use Rattle.std.proofs.lemmas.Bool.{and_parts, eqb-true}
 use Rattle.fut_tokens.specs.declared.token.Token.{Token}
 use Rattle.fut_tokens.specs.declared.token.Token.TheVariants as t
-use Rattle.fut_tokens.specs.declared.token.Place.{Place}
+use Rattle.fut_tokens.specs.declared.token.Position.{Position}
 use Rattle.fut_tokens.specs.declared.kind.Mark.{Mark}
 use Rattle.fut_tokens.specs.declared.kind.Mark.TheVariants.{Alone, Paired}
-use Rattle.fut_tokens.specs.Cut.{Letter, Digit, Blank, Other, class_of, mark_of, each, is_blank, is_letter, is_digit, is_word, is_inline, word_token, number_token, token_by, token_of, IsLongest, starts_comment, Piece, Space, Comment, Lexeme, bytes_of, Fits, IsCut}
+use Rattle.fut_tokens.specs.Cut.{Letter, Digit, Blank, Other, class_of, mark_of, each, is_blank, is_letter, is_digit, is_word, is_inline, word_token}
+use Rattle.fut_tokens.specs.Cut.{number_token, token_by, token_of, IsLongest, starts_comment, Piece, Space, Comment, Lexeme, bytes_of, Fits, IsCut}
 use Rattle.fut_tokens.specs.Lexed.{tokens_of, places_of, IsTokensOf}
 use Rattle.fut_tokens.specs.Runs.{Ends}
 use Rattle.fut_tokens.proofs.Fronts.{ends_line}
@@ -23,7 +24,8 @@ abbrev past : (ℕ → Bool) → List ℕ → List ℕ
 past p [] = []
 past p (b ∷ bs) = if p b then past p bs else b ∷ bs
 
-parts_by : (p : ℕ → Bool) (b : ℕ) (bs : List ℕ) (u : Bool) → bs ≡ run_of p bs ++ past p bs → b ∷ bs ≡ (if u then b ∷ run_of p bs else []) ++ (if u then past p bs else b ∷ bs)
+parts_by : (p : ℕ → Bool) (b : ℕ) (bs : List ℕ) (u : Bool) → bs ≡ run_of p bs ++ past p bs
+    → b ∷ bs ≡ (if u then b ∷ run_of p bs else []) ++ (if u then past p bs else b ∷ bs)
 parts_by p b bs true h = ap (λ q. b ∷ q) h
 parts_by p b bs false h = refl
 
@@ -79,7 +81,8 @@ word_at b bs h = record {
   rest = past is_word bs;
   whole = parts is_word bs;
   token = word_token (b ∷ run_of is_word bs);
-  is = ap (λ q. token_by q b (run_of is_word bs)) (class_letter b h) ∙ ap (λ q. if q then Some (word_token (b ∷ run_of is_word bs)) else None) (run_each is_word bs);
+  is = ap (λ q. token_by q b (run_of is_word bs)) (class_letter b h) ∙ ap (λ q. if q then Some (word_token (b ∷ run_of is_word bs)) else None)
+      (run_each is_word bs);
   longest = word_longest b (run_of is_word bs) (past is_word bs) (class_letter b h) (past_ends is_word bs);
   shorter = past_short is_word bs;
 }
@@ -90,13 +93,15 @@ number_at b bs h = record {
   rest = past is_digit bs;
   whole = parts is_digit bs;
   token = number_token (b ∷ run_of is_digit bs);
-  is = ap (λ q. token_by q b (run_of is_digit bs)) (class_digit b h) ∙ ap (λ q. if q then Some (number_token (b ∷ run_of is_digit bs)) else None) (run_each is_digit bs);
+  is = ap (λ q. token_by q b (run_of is_digit bs)) (class_digit b h) ∙ ap (λ q. if q then Some (number_token (b ∷ run_of is_digit bs)) else None)
+      (run_each is_digit bs);
   longest = number_longest b (run_of is_digit bs) (past is_digit bs) (class_digit b h) (past_ends is_digit bs);
   shorter = past_short is_digit bs;
 }
 
 -- one byte is a token, of which no longer front is one
-one_byte : (b : ℕ) (bs : List ℕ) (m : Option Mark) (x : Token) → class_of b ≡ Other m → token_by (Other m) b [] ≡ Some x → ((y : ℕ) (more after : List ℕ) → bs ≡ (y ∷ more) ++ after → token_by (Other m) b (y ∷ more) ≡ None) → HasToken b bs
+one_byte : (b : ℕ) (bs : List ℕ) (m : Option Mark) (x : Token) → class_of b ≡ Other m → token_by (Other m) b [] ≡ Some x
+    → ((y : ℕ) (more after : List ℕ) → bs ≡ (y ∷ more) ++ after → token_by (Other m) b (y ∷ more) ≡ None) → HasToken b bs
 one_byte b bs m x c h none = record {
   more = [];
   rest = bs;
@@ -122,7 +127,8 @@ paired_at b c bs u v true k h = record {
   shorter = omega arith;
 }
 paired_at b c bs u v false k h =
-    one_byte b (c ∷ bs) (Some (Paired u v)) u k refl (λ y more after e. let same : c ≡ y = cc in paired_none b y more bs u v (ap (λ (q : ℕ). nat_eq q 61) (sym same) ∙ h))
+    one_byte b (c ∷ bs) (Some (Paired u v)) u k refl
+    (λ y more after e. let same : c ≡ y = cc in paired_none b y more bs u v (ap (λ (q : ℕ). nat_eq q 61) (sym same) ∙ h))
 
 mark_at : (b : ℕ) (bs : List ℕ) (m : Option Mark) → class_of b ≡ Other m → HasToken b bs
 mark_at b bs None k = one_byte b bs None t.Scrap k refl (λ y more after e. refl)
@@ -130,7 +136,8 @@ mark_at b bs (Some (Alone x)) k = one_byte b bs (Some (Alone x)) x k refl (λ y 
 mark_at b [] (Some (Paired u v)) k = one_byte b [] (Some (Paired u v)) u k refl (λ y more after e. absurd (cc))
 mark_at b (c ∷ bs) (Some (Paired u v)) k = paired_at b c bs u v (nat_eq c 61) k refl
 
-class_by : (l d k : Bool) (b : ℕ) → is_letter b ≡ l → is_digit b ≡ d → is_blank b ≡ k → class_of b ≡ (if l then Letter else (if d then Digit else (if k then Blank else Other (mark_of b))))
+class_by : (l d k : Bool) (b : ℕ) → is_letter b ≡ l → is_digit b ≡ d → is_blank b ≡ k
+    → class_of b ≡ (if l then Letter else (if d then Digit else (if k then Blank else Other (mark_of b))))
 class_by l d k b el ed ek =
     ap (λ q. if q then Letter else (if is_digit b then Digit else (if is_blank b then Blank else Other (mark_of b)))) el
     ∙ ap (λ q. if l then Letter else (if q then Digit else (if is_blank b then Blank else Other (mark_of b)))) ed
@@ -177,7 +184,7 @@ cut_by (suc n) (b ∷ bs) h =
     let r = cut_by n f.rest (omega (arith, f.shorter)) in
     (f.piece ∷ r.0, (f.rest, f.whole, f.fits, r.1))
 
-pub every_text : (bytes : List ℕ) → (xs : List Token) × (places : List Place) × IsTokensOf bytes xs places
+pub every_text : (bytes : List ℕ) → (xs : List Token) × (places : List Position) × IsTokensOf bytes xs places
 every_text bytes =
     let r = cut_by (length bytes) bytes (omega arith) in
     (tokens_of r.0, places_of [] r.0, record { pieces = r.0; cut = r.1; are = refl; stand = refl })

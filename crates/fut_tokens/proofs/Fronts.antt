@@ -5,29 +5,34 @@ use Rattle.std.proofs.lemmas.List.{take-append-drop}
 use Rattle.std.proofs.lemmas.Bool.{and_parts, eqb-true}
 use Rattle.fut_tokens.specs.declared.token.Token.{Token}
 use Rattle.fut_tokens.specs.declared.lexer.Part.TheVariants as part
-use Rattle.fut_tokens.specs.Cut.{each, is_letter, is_digit, is_word, is_blank, is_inline, word_token, number_token, token_by, EndsLine, Space, Comment, Lexeme, starts_comment}
+use Rattle.fut_tokens.specs.Cut.{each, is_letter, is_digit, is_word, is_blank, is_inline, word_token}
+use Rattle.fut_tokens.specs.Cut.{number_token, token_by, EndsLine, Space, Comment, Lexeme, starts_comment}
 use Rattle.fut_tokens.specs.Parts.{IsLexeme, IsPart}
 use Rattle.fut_tokens.specs.Runs.{Ends, IsRun}
 use Rattle.fut_tokens.proofs.Longest.{number_longest, word_longest}
 use Rattle.fut_tokens.proofs.Tests.{class_letter, class_digit, letter_word}
 
-pub word_front : (text : List ℕ) (n : ℕ) (x : Token) → 0 < length text → is_letter (get_or text 0 0) ≡ true → IsRun is_word text n → x ≡ word_token (take n text) → IsLexeme text x n
+pub word_front : (text : List ℕ) (n : ℕ) (x : Token) → 0 < length text → is_letter (get_or text 0 0) ≡ true → IsRun is_word text n
+    → x ≡ word_token (take n text) → IsLexeme text x n
 word_front [] n x some c run e = absurd (omega arith)
 word_front (b ∷ bs) zero x some c run e = let none : is_word b ≡ false = run.2 in let one = letter_word b c in absurd (cc)
 word_front (b ∷ bs) (suc n) x some c run e = record {
   within = run.0;
   some = omega arith;
-  is = ap (λ q. token_by q b (take n bs)) (class_letter b c) ∙ ap (λ q. if q then Some (word_token (b ∷ take n bs)) else None) ((and_parts (is_word b) (each is_word (take n bs)) run.1).1) ∙ ap Some (sym e);
+  is = ap (λ q. token_by q b (take n bs)) (class_letter b c) ∙ ap (λ q. if q then Some (word_token (b ∷ take n bs)) else None)
+      ((and_parts (is_word b) (each is_word (take n bs)) run.1).1) ∙ ap Some (sym e);
   longest = word_longest b (take n bs) (drop n bs) (class_letter b c) run.2;
 }
 
-pub number_front : (text : List ℕ) (n : ℕ) (x : Token) → 0 < length text → is_digit (get_or text 0 0) ≡ true → IsRun is_digit text n → x ≡ number_token (take n text) → IsLexeme text x n
+pub number_front : (text : List ℕ) (n : ℕ) (x : Token) → 0 < length text → is_digit (get_or text 0 0) ≡ true → IsRun is_digit text n
+    → x ≡ number_token (take n text) → IsLexeme text x n
 number_front [] n x some c run e = absurd (omega arith)
 number_front (b ∷ bs) zero x some c run e = let none : is_digit b ≡ false = run.2 in absurd (cc)
 number_front (b ∷ bs) (suc n) x some c run e = record {
   within = run.0;
   some = omega arith;
-  is = ap (λ q. token_by q b (take n bs)) (class_digit b c) ∙ ap (λ q. if q then Some (number_token (b ∷ take n bs)) else None) ((and_parts (is_digit b) (each is_digit (take n bs)) run.1).1) ∙ ap Some (sym e);
+  is = ap (λ q. token_by q b (take n bs)) (class_digit b c) ∙ ap (λ q. if q then Some (number_token (b ∷ take n bs)) else None)
+      ((and_parts (is_digit b) (each is_digit (take n bs)) run.1).1) ∙ ap Some (sym e);
   longest = number_longest b (take n bs) (drop n bs) (class_digit b c) run.2;
 }
 

@@ -7,7 +7,8 @@ use Rattle.fut_tokens.specs.declared.token.Token.{Token}
 use Rattle.fut_tokens.specs.declared.token.Token.TheVariants as t
 use Rattle.fut_tokens.specs.declared.kind.Mark.{Mark}
 use Rattle.fut_tokens.specs.declared.kind.Mark.TheVariants.{Alone, Paired}
-use Rattle.fut_tokens.specs.Cut.{keywords, symbols, keyword_of, mark_of, each, is_letter, is_blank, is_word, is_digit, word_or, word_token, has_leading_zero, in_range, value_from, number_token, Letter, Digit, Blank, Other, token_by, token_of, Piece, Space, Comment, Lexeme, IsCut}
+use Rattle.fut_tokens.specs.Cut.{keywords, symbols, keyword_of, mark_of, each, is_letter, is_blank, is_word, is_digit, word_or, word_token, has_leading_zero}
+use Rattle.fut_tokens.specs.Cut.{in_range, value_from, number_token, Letter, Digit, Blank, Other, token_by, token_of, Piece, Space, Comment, Lexeme, IsCut}
 use Rattle.fut_tokens.specs.Ended.{IsEnded}
 use Rattle.fut_tokens.specs.Lexed.{tokens_of}
 use Rattle.fut_tokens.proofs.Tables.{found}
@@ -63,7 +64,8 @@ by_mark b [] (Some (Paired x y)) e = (and_parts (is_other x) (is_other y) (mark_
 by_mark b (c ∷ []) (Some (Paired x y)) e = if_other (nat_eq c 61) y ((and_parts (is_other x) (is_other y) (mark_other b (Paired x y) e)).1)
 by_mark b (c ∷ d ∷ bs) (Some (Paired x y)) e = refl
 
-by_class : (l d k : Bool) (b : ℕ) (bs : List ℕ) → each_other (token_by (if l then Letter else (if d then Digit else (if k then Blank else Other (mark_of b)))) b bs) ≡ true
+by_class : (l d k : Bool) (b : ℕ) (bs : List ℕ)
+    → each_other (token_by (if l then Letter else (if d then Digit else (if k then Blank else Other (mark_of b)))) b bs) ≡ true
 by_class true d k b bs = if_other (each is_word bs) (word_token (b ∷ bs)) (word_other (b ∷ bs) (keyword_of (b ∷ bs)) refl)
 by_class false true k b bs = if_other (each is_digit bs) (number_token (b ∷ bs)) (number_other (has_leading_zero (b ∷ bs)) (value_from 0 (b ∷ bs)))
 by_class false false true b bs = refl

@@ -4,7 +4,7 @@ use Rattle.std.specs.Prelude.{count_by, nat_eq, if◌then◌else◌}
 use Rattle.std.specs.List.{suffix_len, prefix_len}
 use Rattle.std.proofs.lemmas.List.{reverse-append, length-reverse}
 use Rattle.std.proofs.lemmas.List.Sums.{count_by-le-length, prefix_len-le-length, sum_by_push}
-use Rattle.fut_tokens.specs.declared.token.Place.{Place}
+use Rattle.fut_tokens.specs.declared.token.Position.{Position}
 use Rattle.fut_tokens.specs.Cut.{is_inline}
 use Rattle.fut_tokens.specs.Lexed.{place_after}
 use Rattle.fut_tokens.specs.Lexing.{place_on}
@@ -15,12 +15,14 @@ column_small bs = let h = prefix_len-le-length is_inline (reverse bs) in omega (
 pub line_small : (bs : List ℕ) → (place_after bs).line ≤ 1 + length bs
 line_small bs = omega (arith, count_by-le-length (λ b. nat_eq b 10) bs)
 
-abbrev made : ℕ → ℕ → Place
+abbrev made : ℕ → ℕ → Position
 made l c = record { line = l; column = c }
 
-by_test : (t : Bool) (m n : ℕ) → made (1 + (m + (if t then 1 else 0))) (1 + (if (if t then false else true) then 1 + n else 0)) ≡ (if t then made (1 + m + 1) 1 else made (1 + m) (1 + n + 1))
+by_test : (t : Bool) (m n : ℕ) → made (1 + (m + (if t then 1 else 0))) (1 + (if (if t then false else true) then 1 + n else 0))
+    ≡ (if t then made (1 + m + 1) 1 else made (1 + m) (1 + n + 1))
 by_test true m n = ap (λ q. made q 1) (omega arith)
-by_test false m n = let a : 1 + (m + 0) ≡ 1 + m = omega arith in let b : 1 + (1 + n) ≡ 1 + n + 1 = omega arith in ap (λ q. made q (1 + (1 + n))) a ∙ ap (λ q. made (1 + m) q) b
+by_test false m n = let a : 1 + (m + 0) ≡ 1 + m = omega arith in let b : 1 + (1 + n) ≡ 1 + n + 1 =
+    omega arith in ap (λ q. made q (1 + (1 + n))) a ∙ ap (λ q. made (1 + m) q) b
 
 -- the place behind one byte more
 pub after_push : (bs : List ℕ) (b : ℕ) → place_after (bs ++ b ∷ []) ≡ place_on (place_after bs) b

@@ -5,11 +5,13 @@ use Rattle.std.proofs.lemmas.Bool.Decides.{nat_tests}
 use Rattle.std.proofs.lemmas.Bool.{and_right, or_parts}
 use Rattle.fut_tokens.specs.declared.token.Token.{Token}
 use Rattle.fut_tokens.specs.declared.token.Token.TheVariants as t
-use Rattle.fut_tokens.specs.declared.token.Place.{Place}
+use Rattle.fut_tokens.specs.declared.token.Position.{Position}
 use Rattle.fut_tokens.specs.declared.kind.Mark.TheVariants.{Alone, Paired}
-use Rattle.fut_tokens.specs.Cut.{Class, Letter, Digit, Blank, Other, class_of, mark_of, is_blank, is_word, is_digit, word_token, number_token, token_by, token_of, IsLongest, starts_comment, Piece, Space, Comment, Lexeme, IsCut}
+use Rattle.fut_tokens.specs.Cut.{Class, Letter, Digit, Blank, Other, class_of, mark_of, is_blank, is_word, is_digit, word_token}
+use Rattle.fut_tokens.specs.Cut.{number_token, token_by, token_of, IsLongest, starts_comment, Piece, Space, Comment, Lexeme, IsCut}
 use Rattle.fut_tokens.specs.Lexed.{tokens_of, places_of, IsTokensOf, has_comment, HasComments}
-use Rattle.fut_tokens.specs.Spelling.{spelling, Spaced, spaced, ended_tokens, IsReadable, AreReadable, AreBlank, is_scrap, has_scrap, line_of, lines_of, tokens_in_lines, HaveTokens}
+use Rattle.fut_tokens.specs.Spelling.{spelling, Spaced, spaced, ended_tokens, IsReadable, AreReadable, AreBlank}
+use Rattle.fut_tokens.specs.Spelling.{is_scrap, has_scrap, line_of, lines_of, tokens_in_lines, HaveTokens}
 use Rattle.fut_tokens.proofs.Cuts.{cut_once}
 use Rattle.fut_tokens.proofs.Longest.{each_not}
 use Rattle.fut_tokens.proofs.Spelled.{readable}
@@ -86,7 +88,7 @@ are : (ss : List Spaced) → ended_tokens ss ≡ tokens_of (pieces ss)
 are [] = refl
 are (s ∷ ss) = ap (λ q. s.token ∷ q) (are ss)
 
-pub spaced_reads : (ss : List Spaced) → AreReadable ss → AreBlank ss → (places : List Place) × IsTokensOf (spaced ss) (ended_tokens ss) places
+pub spaced_reads : (ss : List Spaced) → AreReadable ss → AreBlank ss → (places : List Position) × IsTokensOf (spaced ss) (ended_tokens ss) places
 spaced_reads ss h k = (places_of [] (pieces ss), record { pieces = pieces ss; cut = cut ss h k; are = are ss; stand = refl })
 
 no_comments : (ss : List Spaced) → has_comment (pieces ss) ≡ false
@@ -110,7 +112,8 @@ no_scrap : (x : Token) → is_scrap x ≡ false → x ≡ t.Scrap → ⊥
 no_scrap x h e = let t : true ≡ false = ap is_scrap (sym e) ∙ h in absurd (cc)
 
 -- the tokens of a cut are readable
-are_readable : (ps : List Piece) (bytes : List ℕ) (ss : List Spaced) → IsCut bytes ps → ended_tokens ss ≡ tokens_of ps → has_scrap (tokens_of ps) ≡ false → AreReadable ss
+are_readable : (ps : List Piece) (bytes : List ℕ) (ss : List Spaced) → IsCut bytes ps → ended_tokens ss ≡ tokens_of ps → has_scrap (tokens_of ps) ≡ false
+    → AreReadable ss
 are_readable ps bytes [] c e n = tt
 are_readable [] bytes (s ∷ ss) c e n = absurd (some_ended ss (cc))
 are_readable (Space b ∷ ps) bytes (s ∷ ss) c e n = are_readable ps c.0 (s ∷ ss) c.3 e n
@@ -120,10 +123,11 @@ are_readable (Lexeme bs x ∷ ps) bytes (s ∷ ss) c e n =
     let k = or_parts (is_scrap x) (has_scrap (tokens_of ps)) n in
     (subst IsReadable same (readable bs x c.2.0 (no_scrap x k.0)), are_readable ps c.0 ss c.3 (cc) k.1)
 
-pub respaced_reads : (bytes : List ℕ) (xs : List Token) (places : List Place) → IsTokensOf bytes xs places → has_scrap xs ≡ false → (ss : List Spaced) → ended_tokens ss ≡ xs → AreBlank ss → (again : List Place) × IsTokensOf (spaced ss) xs again
+pub respaced_reads : (bytes : List ℕ) (xs : List Token) (places : List Position) → IsTokensOf bytes xs places → has_scrap xs ≡ false → (ss : List Spaced)
+    → ended_tokens ss ≡ xs → AreBlank ss → (again : List Position) × IsTokensOf (spaced ss) xs again
 respaced_reads bytes xs places f n ss e k =
     let h = are_readable f.pieces bytes ss f.cut (e ∙ f.are) (ap has_scrap (sym f.are) ∙ n) in
-    subst (λ q. (again : List Place) × IsTokensOf (spaced ss) q again) e (spaced_reads ss h k)
+    subst (λ q. (again : List Position) × IsTokensOf (spaced ss) q again) e (spaced_reads ss h k)
 
 abbrev spaced_rest : Token → List Token → List Spaced → List Spaced
 spaced_rest x [] ss = record { token = x; blank = 10 } ∷ ss
@@ -143,7 +147,8 @@ lines_are [] h = refl
 lines_are ([] ∷ lines) h = absurd h
 lines_are ((x ∷ xs) ∷ lines) h = rest_is x xs (spaced_lines lines) (lines_of lines) (lines_are lines h)
 
-rest_tokens : (x : Token) (xs : List Token) (ss : List Spaced) (more : List Token) → ended_tokens ss ≡ more → ended_tokens (spaced_rest x xs ss) ≡ (x ∷ xs) ++ more
+rest_tokens : (x : Token) (xs : List Token) (ss : List Spaced) (more : List Token) → ended_tokens ss ≡ more
+    → ended_tokens (spaced_rest x xs ss) ≡ (x ∷ xs) ++ more
 rest_tokens x [] ss more e = ap (λ q. x ∷ q) e
 rest_tokens x (y ∷ ys) ss more e = ap (λ q. x ∷ q) (rest_tokens y ys ss more e)
 
@@ -161,12 +166,15 @@ lines_blank [] = tt
 lines_blank ([] ∷ lines) = lines_blank lines
 lines_blank ((x ∷ xs) ∷ lines) = rest_blank x xs (spaced_lines lines) (lines_blank lines)
 
-pub lines_read : (bytes : List ℕ) (xs : List Token) (places : List Place) → IsTokensOf bytes xs places → has_scrap xs ≡ false → (lines : List (List Token)) → tokens_in_lines lines ≡ xs → HaveTokens lines → (again : List Place) × IsTokensOf (lines_of lines) xs again
+pub lines_read : (bytes : List ℕ) (xs : List Token) (places : List Position) → IsTokensOf bytes xs places → has_scrap xs ≡ false → (lines : List (List Token))
+    → tokens_in_lines lines ≡ xs → HaveTokens lines → (again : List Position) × IsTokensOf (lines_of lines) xs again
 lines_read bytes xs places f n lines e h =
-    subst (λ (q : List ℕ). (again : List Place) × IsTokensOf q xs again) (lines_are lines h) (respaced_reads bytes xs places f n (spaced_lines lines) (lines_tokens lines ∙ e) (lines_blank lines))
+    subst (λ (q : List ℕ). (again : List Position) × IsTokensOf q xs again) (lines_are lines h)
+    (respaced_reads bytes xs places f n (spaced_lines lines) (lines_tokens lines ∙ e) (lines_blank lines))
 
 -- there is no comment in lines of the tokens of a text
-pub lines_plain : (bytes : List ℕ) (xs : List Token) (places : List Place) → IsTokensOf bytes xs places → has_scrap xs ≡ false → (lines : List (List Token)) → tokens_in_lines lines ≡ xs → HaveTokens lines → HasComments (lines_of lines) false
+pub lines_plain : (bytes : List ℕ) (xs : List Token) (places : List Position) → IsTokensOf bytes xs places → has_scrap xs ≡ false
+    → (lines : List (List Token)) → tokens_in_lines lines ≡ xs → HaveTokens lines → HasComments (lines_of lines) false
 lines_plain bytes xs places f n lines e h =
     let k = are_readable f.pieces bytes (spaced_lines lines) f.cut (lines_tokens lines ∙ e ∙ f.are) (ap has_scrap (sym f.are) ∙ n) in
     subst (λ (q : List ℕ). HasComments q false) (lines_are lines h) (spaced_plain (spaced_lines lines) k (lines_blank lines))

@@ -11,7 +11,8 @@ use Rattle.fut_tokens.specs.declared.token.Token.{Token}
 use Rattle.fut_tokens.specs.declared.token.Token.TheVariants as t
 use Rattle.fut_tokens.specs.declared.kind.Mark.{Mark}
 use Rattle.fut_tokens.specs.declared.kind.Mark.TheVariants.{Alone, Paired}
-use Rattle.fut_tokens.specs.Cut.{keywords, symbols, keyword_of, mark_of, each, is_letter, is_blank, is_word, is_digit, word_or, word_token, has_leading_zero, value_from, number_token, Letter, Digit, Blank, Other, token_by, token_of}
+use Rattle.fut_tokens.specs.Cut.{keywords, symbols, keyword_of, mark_of, each, is_letter, is_blank, is_word, is_digit, word_or, word_token}
+use Rattle.fut_tokens.specs.Cut.{has_leading_zero, value_from, number_token, Letter, Digit, Blank, Other, token_by, token_of}
 use Rattle.fut_tokens.specs.Spelling.{spelling, IsReadable}
 use Rattle.fut_tokens.proofs.Tables.{found}
 
@@ -53,12 +54,15 @@ one_digit [] h z some = absurd (omega arith)
 one_digit (a ∷ []) h z some = refl
 one_digit (a ∷ b ∷ ds) h z some = let t : false ≡ true = sym h ∙ ap (λ (q : ℕ). nat_eq q 48) z in absurd (cc)
 
-decimal_is : (ds : List ℕ) → each is_digit ds ≡ true → 0 < length ds → has_leading_zero ds ≡ false → nat_le (value_from 0 ds) 9223372036854775807 ≡ true → decimal (value_from 0 ds) ≡ ds
+decimal_is : (ds : List ℕ) → each is_digit ds ≡ true → 0 < length ds → has_leading_zero ds ≡ false → nat_le (value_from 0 ds) 9223372036854775807 ≡ true
+    → decimal (value_from 0 ds) ≡ ds
 decimal_is ds d some z small =
     let below : value_from 0 ds ≤ 9223372036854775807 = grind (arith, nat_tests) in
     decimal-digits_value own ds d some (λ h. one_digit ds z h some) (omega arith)
 
-number_spelled : (zeros small : Bool) (ds : List ℕ) (x : Token) → each is_digit ds ≡ true → 0 < length ds → has_leading_zero ds ≡ zeros → nat_le (value_from 0 ds) 9223372036854775807 ≡ small → (if zeros then t.Scrap else (if small then t.Number (value_from 0 ds) else t.Scrap)) ≡ x → x ≢ t.Scrap → spelling x ≡ ds
+number_spelled : (zeros small : Bool) (ds : List ℕ) (x : Token) → each is_digit ds ≡ true → 0 < length ds → has_leading_zero ds ≡ zeros
+    → nat_le (value_from 0 ds) 9223372036854775807 ≡ small → (if zeros then t.Scrap else (if small then t.Number (value_from 0 ds) else t.Scrap)) ≡ x
+    → x ≢ t.Scrap → spelling x ≡ ds
 number_spelled true small ds x d some z s e n = absurd (n (sym e))
 number_spelled false true ds x d some z s e n = ap spelling (sym e) ∙ decimal_is ds d some z s
 number_spelled false false ds x d some z s e n = absurd (n (sym e))
@@ -72,7 +76,8 @@ by_mark b [] None x e h n = absurd (n (cc))
 by_mark b (c ∷ bs) None x e h n = absurd (cc)
 by_mark b [] (Some (Alone y)) x e h n = let same : y ≡ x = cc in ap spelling (sym same) ∙ spelled_is (b ∷ []) y (mark_spelled b (Alone y) e)
 by_mark b (c ∷ bs) (Some (Alone y)) x e h n = absurd (cc)
-by_mark b [] (Some (Paired y z)) x e h n = let same : y ≡ x = cc in ap spelling (sym same) ∙ spelled_is (b ∷ []) y ((and_parts (is_spelled (b ∷ []) y) (is_spelled (b ∷ 61 ∷ []) z) (mark_spelled b (Paired y z) e)).0)
+by_mark b [] (Some (Paired y z)) x e h n = let same : y ≡ x =
+    cc in ap spelling (sym same) ∙ spelled_is (b ∷ []) y ((and_parts (is_spelled (b ∷ []) y) (is_spelled (b ∷ 61 ∷ []) z) (mark_spelled b (Paired y z) e)).0)
 by_mark b (c ∷ []) (Some (Paired y z)) x e h n =
     let k = if_some (nat_eq c 61) z x h in
     ap spelling (sym k.1)
@@ -80,11 +85,13 @@ by_mark b (c ∷ []) (Some (Paired y z)) x e h n =
     ∙ ap (λ (q : ℕ). b ∷ q ∷ []) (sym (eqb-true c 61 k.0))
 by_mark b (c ∷ d ∷ bs) (Some (Paired y z)) x e h n = absurd (cc)
 
-by_class : (l d k : Bool) (b : ℕ) (bs : List ℕ) (x : Token) → is_digit b ≡ d → token_by (if l then Letter else (if d then Digit else (if k then Blank else Other (mark_of b)))) b bs ≡ Some x → x ≢ t.Scrap → spelling x ≡ b ∷ bs
+by_class : (l d k : Bool) (b : ℕ) (bs : List ℕ) (x : Token) → is_digit b ≡ d
+    → token_by (if l then Letter else (if d then Digit else (if k then Blank else Other (mark_of b)))) b bs ≡ Some x → x ≢ t.Scrap → spelling x ≡ b ∷ bs
 by_class true d k b bs x e h n = word_spelled (b ∷ bs) (keyword_of (b ∷ bs)) x refl (if_some (each is_word bs) (word_token (b ∷ bs)) x h).1 n
 by_class false true k b bs x e h n =
     let m = if_some (each is_digit bs) (number_token (b ∷ bs)) x h in
-    number_spelled (has_leading_zero (b ∷ bs)) (nat_le (value_from 0 (b ∷ bs)) 9223372036854775807) (b ∷ bs) x (ap (λ q. q && each is_digit bs) e ∙ m.0) (omega arith) refl refl m.1 n
+    number_spelled (has_leading_zero (b ∷ bs)) (nat_le (value_from 0 (b ∷ bs)) 9223372036854775807) (b ∷ bs) x (ap (λ q. q && each is_digit bs) e ∙ m.0)
+    (omega arith) refl refl m.1 n
 by_class false false true b bs x e h n = absurd (cc)
 by_class false false false b bs x e h n = by_mark b bs (mark_of b) x refl h n
 

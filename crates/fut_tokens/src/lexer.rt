@@ -9,7 +9,7 @@ ghost use Rattle.fut_tokens.specs.Parts.{IsLexeme, IsPart};
 use crate::scan::{
     Lexeme, is_blank, is_digit, is_letter, line_run, mark, number, starts_comment, word,
 };
-use crate::token::{Place, Token};
+use crate::token::{Position, Token};
 use fut_base::list::NoMemory;
 use std::alloc::Global;
 
@@ -74,13 +74,13 @@ pub struct Lexed {
     /// The tokens in the order of the text. The end token is the last.
     pub tokens: Vec<Token>,
     /// The place of each token.
-    pub places: Vec<Place>,
+    pub places: Vec<Position>,
     /// Whether the text has a comment.
     pub comments: bool,
 }
 
 impl Lexed {
-    fn add(&mut self, token: Token, place: Place) -> Result<(), NoMemory>
+    fn add(&mut self, token: Token, place: Position) -> Result<(), NoMemory>
         ensures tokens { OnOk result (self.new.tokens.items ≡ self.old.tokens.items ++ token ∷ []) }
         ensures places { OnOk result (self.new.places.items ≡ self.old.places.items ++ place ∷ []) }
         ensures comments { self.new.comments ≡ self.old.comments }
@@ -90,7 +90,7 @@ impl Lexed {
         Ok(())
     }
 
-    fn take(&mut self, part: Part, place: Place) -> Result<(), NoMemory>
+    fn take(&mut self, part: Part, place: Position) -> Result<(), NoMemory>
         ensures tokens { OnOk result (self.new.tokens.items ≡ self.old.tokens.items ++ tokens_in part) }
         ensures places { OnOk result (self.new.places.items ≡ self.old.places.items ++ places_in place part) }
         ensures comments { self.new.comments ≡ (self.old.comments || is_comment part) }
@@ -107,18 +107,18 @@ impl Lexed {
 }
 
 /// The place one byte on.
-fn place_on(place: Place, b: u8) -> Place
+fn place_on(place: Position, b: u8) -> Position
     requires line { place.line + 1 < 2 ^ 32 }
     requires column { place.column + 1 < 2 ^ 32 }
     ensures { result ≡ place_on place b }
 {
     if b == b'\n' {
-        Place {
+        Position {
             line: place.line + 1,
             column: 1,
         }
     } else {
-        Place {
+        Position {
             line: place.line,
             column: place.column + 1,
         }
@@ -126,7 +126,7 @@ fn place_on(place: Place, b: u8) -> Place
 }
 
 /// The place behind the first `to` bytes, where `place` is that behind the first `from` of them.
-fn place_at(text: &[u8], place: Place, from: usize, to: usize) -> Place
+fn place_at(text: &[u8], place: Position, from: usize, to: usize) -> Position
     requires order { from ≤ to }
     requires within { to ≤ length text.now }
     requires short { length text.now + 1 < 2 ^ 32 }
@@ -154,7 +154,7 @@ pub fn tokens(alloc: Global, text: &[u8]) -> Result<Lexed, NoMemory>
         places: Vec::new(alloc),
         comments: false,
     };
-    let mut place = Place { line: 1, column: 1 };
+    let mut place = Position { line: 1, column: 1 };
     let mut at = 0;
     while at < text.len() {
         let front = first_part(alloc, &text[at..])?;

@@ -1,6 +1,7 @@
 //! The token at the front of a text.
 ghost use Rattle.std.specs.Prelude.{◌≡◌, ◌<◌, ◌≤◌, true, false, length, take, drop, slice_index, IfOk};
-ghost use Rattle.fut_tokens.specs.Cut.{is_word, is_digit, is_letter, is_blank, is_inline, word_token, number_token, value_from, has_leading_zero, starts_comment};
+ghost use Rattle.fut_tokens.specs.Cut.{is_word, is_digit, is_letter, is_blank, is_inline, word_token};
+ghost use Rattle.fut_tokens.specs.Cut.{number_token, value_from, has_leading_zero, starts_comment};
 ghost use Rattle.fut_tokens.specs.Parts.{IsLexeme, ranged};
 ghost use Rattle.fut_tokens.specs.Runs.{IsRun, AllDigits};
 

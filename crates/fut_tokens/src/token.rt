@@ -55,7 +55,7 @@ pub enum Token {
 
 /// Where a token stands: its line, and its column in bytes, both from 1.
 #[derive(Clone, Copy, Debug, PartialEq, Eq)]
-pub struct Place {
+pub struct Position {
     pub line: u32,
     pub column: u32,
 }

@@ -34,7 +34,8 @@ ended_each [] e t r h = cc
 ended_each (q ∷ rs) e zero r h = subst (λ (x : Running). IsSome x.value) (same_Some q r h) e.0
 ended_each (q ∷ rs) e (suc t) r h = ended_each rs e.1 t r h
 
-module _ (P : tree.Program) (n : ℕ) (place : ℕ → ℕ) (book : List Drawn) (shards : List (List Drawn)) (traces : List (ℕ × List Drawn)) (h : List Event) (run : IsSharedRun P n place book shards traces) (merge : IsMerge (book ∷ shards) h) (m : Machine) (leads : Leads P (opening P) h m) where
+module _ (P : tree.Program) (n : ℕ) (place : ℕ → ℕ) (book : List Drawn) (shards : List (List Drawn)) (traces : List (ℕ × List Drawn)) (h : List Event)
+    (run : IsSharedRun P n place book shards traces) (merge : IsMerge (book ∷ shards) h) (m : Machine) (leads : Leads P (opening P) h m) where
   pub kept : reverse (events_in book) ≡ kept_of (reverse h)
   kept = book_kept P n place book shards traces h run merge
 
@@ -49,7 +50,8 @@ module _ (P : tree.Program) (n : ℕ) (place : ℕ → ℕ) (book : List Drawn) 
       let k = get_some m.tasks t (let e = mirrors.tasks in omega (arith, e, lt)) in
       (k.0, k.1, (mirrors.each t k.0 k.1).value)
 
-  pub state_there : (r : ℕ × List Drawn) → Among r traces → (x : IsTraced P book r.0 r.1) → (q : Running) × (slice_get m.tasks r.0 ≡ Some q) × (q.state ≡ x.state) × (q.value ≡ value_of (reverse (events_in book)) r.0)
+  pub state_there : (r : ℕ × List Drawn) → Among r traces → (x : IsTraced P book r.0 r.1)
+      → (q : Running) × (slice_get m.tasks r.0 ≡ Some q) × (q.state ≡ x.state) × (q.value ≡ value_of (reverse (events_in book)) r.0)
   state_there r a x =
       let starts = book_starts P n place book shards traces h run merge r.0 x.which x.args x.starts in
       let k = task_there r.0 (starts_below P (kept_of (reverse h)) sound r.0 x.which x.args starts) in
@@ -57,7 +59,8 @@ module _ (P : tree.Program) (n : ℕ) (place : ℕ → ℕ) (book : List Drawn) 
       let s = came_states P (reverse h) m (came P h m leads) r.0 q k.1 in
       let one = starts_one P (kept_of (reverse h)) sound r.0 q.which x.which s.0 x.args (starts_kept P (reverse h) r.0 q.which s.0 s.1) starts in
       let own : IsStateAfter P x.which x.args (acts_of r.0 (reverse h)) q.state =
-      subst (λ w. IsStateAfter P w x.args (acts_of r.0 (reverse h)) q.state) one.0 (subst (λ (vs : List Value). IsStateAfter P q.which vs (acts_of r.0 (reverse h)) q.state) one.1 s.2) in
+      subst (λ w. IsStateAfter P w x.args (acts_of r.0 (reverse h)) q.state) one.0
+      (subst (λ (vs : List Value). IsStateAfter P q.which vs (acts_of r.0 (reverse h)) q.state) one.1 s.2) in
       let other : IsStateAfter P x.which x.args (acts_of r.0 (reverse h)) x.state =
       subst (λ (l : List Event). IsStateAfter P x.which x.args l x.state) (trace_acts P n place book shards traces h run merge r a) x.leads in
       (q, k.1, follows_one P _ (acts_of r.0 (reverse h)) q.state x.state own other, sym k.2 ∙ ap (λ (l : List Event). value_of l r.0) (sym kept))
@@ -65,7 +68,8 @@ module _ (P : tree.Program) (n : ℕ) (place : ℕ → ℕ) (book : List Drawn) 
   pub whole_there : ((t : ℕ) → t < next_task (reverse (events_in book)) → IsSome (value_of (reverse (events_in book)) t)) → EachEnded m.tasks
   whole_there f =
       each_ended m.tasks (λ t r got. (
-      let below : t < next_task (reverse (events_in book)) = (let l = get_below m.tasks t r got in let e = mirrors.tasks in let o = ap next_task kept in omega (arith, l, e, o)) in
+      let below : t < next_task (reverse (events_in book)) =
+      (let l = get_below m.tasks t r got in let e = mirrors.tasks in let o = ap next_task kept in omega (arith, l, e, o)) in
       subst (λ (v : Option Value). IsSome v) (ap (λ (l : List Event). value_of l t) kept ∙ (mirrors.each t r got).value) (f t below)))
 
   pub ended_there : EachEnded m.tasks → (t : ℕ) → t < next_task (reverse (events_in book)) → IsSome (value_of (reverse (events_in book)) t)

@@ -1,5 +1,6 @@
 -- What is kept of a cell by a beginning of the book is what is kept of it in the merge.
-use Rattle.std.proofs.Common.{◌≡◌, ℕ, ◌<◌, Bool, true, false, cond, ◌==◌, if◌then◌else◌, List, [], ◌∷◌, ◌++◌, length, inl, inr, refl, sym, ap, ◌∙◌, subst, arith, option_to_list, option_map}
+use Rattle.std.proofs.Common.{◌≡◌, ℕ, ◌<◌, Bool, true, false, cond, ◌==◌, if◌then◌else◌, List, [], ◌∷◌, ◌++◌}
+use Rattle.std.proofs.Common.{length, inl, inr, refl, sym, ap, ◌∙◌, subst, arith, option_to_list, option_map}
 use Rattle.fut_base.proofs.Cases.{by_eq}
 use Rattle.std.proofs.lemmas.List.{reverse-append}
 use Rattle.std.specs.Prelude.{Option, Some, None, reverse}
@@ -28,11 +29,13 @@ use Rattle.merge_laws.proofs.Merging.{in_shard, shard_test, shard_is, structure_
 -- ---- with fewer structural events the same is kept
 
 module _ (s more : List Event) (sound : IsSound (s ++ more)) (past : List (Touch Kind)) (on : AreOn s past) where
-  joined_back : (a b : Touch Kind) → Among a past → Among b past → AreJoinedBy (edges_of (s ++ more)) a.strand b.strand → AreJoinedBy (edges_of s) a.strand b.strand
+  joined_back : (a b : Touch Kind) → Among a past → Among b past → AreJoinedBy (edges_of (s ++ more)) a.strand b.strand
+      → AreJoinedBy (edges_of s) a.strand b.strand
   joined_back a b ha hb (inl r) = inl ((same_paths s more sound a.strand b.strand (on b hb)).0 r)
   joined_back a b ha hb (inr r) = inr ((same_paths s more sound b.strand a.strand (on a ha)).0 r)
 
-  joined_on : (a b : Touch Kind) → Among a past → Among b past → AreJoinedBy (edges_of s) a.strand b.strand → AreJoinedBy (edges_of (s ++ more)) a.strand b.strand
+  joined_on : (a b : Touch Kind) → Among a past → Among b past → AreJoinedBy (edges_of s) a.strand b.strand
+      → AreJoinedBy (edges_of (s ++ more)) a.strand b.strand
   joined_on a b ha hb (inl r) = inl ((same_paths s more sound a.strand b.strand (on b hb)).1 r)
   joined_on a b ha hb (inr r) = inr ((same_paths s more sound b.strand a.strand (on a ha)).1 r)
 
@@ -54,7 +57,8 @@ module _ (s more : List Event) (sound : IsSound (s ++ more)) (past : List (Touch
   strand_back : (v : Strand) → v.number < next_strand (reverse s) → IsStrandOf (s ++ more) v → IsStrandOf s v
   strand_back v lt of =
       let k = more_strands (reverse more) (reverse s) whole v.number lt in
-      let home : v.future ≡ home_of (reverse more ++ reverse s) v.number = subst (λ (p : List Event). v.future ≡ home_of p v.number) (reverse-append s more) of.future_is in
+      let home : v.future ≡ home_of (reverse more ++ reverse s) v.number =
+      subst (λ (p : List Event). v.future ≡ home_of p v.number) (reverse-append s more) of.future_is in
       record { there = lt; future_is = home ∙ k.1 }
 
   shows_back : (a : Access) (t : Touch Kind) → Among t past → Shows (s ++ more) a t → Shows s a t
@@ -98,16 +102,21 @@ drawn_kind : (c k : ℕ) (e : Event) (rest : List Drawn) (o : Option Kind) → k
     → drawn_touches c ((k, e) ∷ rest) ≡ option_to_list (option_map (λ kind. touch k e.strand kind) o) ++ drawn_touches c rest
 drawn_kind c k e rest o is = ap (λ z. option_to_list (option_map (λ kind. touch k e.strand kind) z) ++ drawn_touches c rest) is
 
-drawn_none : (c k : ℕ) (e : Event) (rest : List Drawn) (b : Bool) → kind_of c e.action ≡ None → drawn_touches c (cond b ((k, e) ∷ rest) rest) ≡ drawn_touches c rest
+drawn_none : (c k : ℕ) (e : Event) (rest : List Drawn) (b : Bool) → kind_of c e.action ≡ None
+    → drawn_touches c (cond b ((k, e) ∷ rest) rest) ≡ drawn_touches c rest
 drawn_none c k e rest true is = drawn_kind c k e rest None is
 drawn_none c k e rest false is = refl
 
 -- an access of some cell
 access_if : (place : ℕ → ℕ) (c k : ℕ) (e : Event) (cell : ℕ) (kind : Kind) (rest : List Drawn) → kind_of c e.action ≡ (if cell == c then Some kind else None)
-    → drawn_touches c (cond (place cell == place c) ((k, e) ∷ rest) rest) ≡ option_to_list (option_map (λ kind. touch k e.strand kind) (if cell == c then Some kind else None)) ++ drawn_touches c rest
+    → drawn_touches c (cond (place cell == place c) ((k, e) ∷ rest) rest)
+    ≡ option_to_list (option_map (λ kind. touch k e.strand kind) (if cell == c then Some kind else None)) ++ drawn_touches c rest
 access_if place c k e cell kind rest =
-    by_eq (λ t. kind_of c e.action ≡ (if t then Some kind else None) → drawn_touches c (cond (place cell == place c) ((k, e) ∷ rest) rest) ≡ option_to_list (option_map (λ kind. touch k e.strand kind) (if t then Some kind else None)) ++ drawn_touches c rest) cell c
-    (λ same is. by_eq (λ t. drawn_touches c (cond t ((k, e) ∷ rest) rest) ≡ touch k e.strand kind ∷ drawn_touches c rest) (place cell) (place c) (λ _. drawn_kind c k e rest (Some kind) is) (λ ne. absurd (ne (ap place same))))
+    by_eq
+    (λ t. kind_of c e.action ≡ (if t then Some kind else None) → drawn_touches c (cond (place cell == place c) ((k, e) ∷ rest) rest)
+    ≡ option_to_list (option_map (λ kind. touch k e.strand kind) (if t then Some kind else None)) ++ drawn_touches c rest) cell c
+    (λ same is. by_eq (λ t. drawn_touches c (cond t ((k, e) ∷ rest) rest) ≡ touch k e.strand kind ∷ drawn_touches c rest) (place cell) (place c)
+    (λ _. drawn_kind c k e rest (Some kind) is) (λ ne. absurd (ne (ap place same))))
     (λ ne is. drawn_none c k e rest (place cell == place c) is)
 
 touches_if : (place : ℕ → ℕ) (c k : ℕ) (e : Event) (a : Action) → e.action ≡ a → (rest : List Drawn)
@@ -136,8 +145,10 @@ kept_is_same P n place book shards traces h run merge c own s more kept got part
     let structure : structure_of h ≡ s ++ more = structure_is P n place book shards traces h run merge ∙ parts in
     let same : touches_of c h ≡ touches_in c own = touches_are_drawn P n place book shards traces h run merge c own got in
     let sound : IsSound (s ++ more) = subst IsSound parts run.sound in (
-      (λ k. subst (λ l. IsKept (structure_of h) l kept) (sym same) (subst (λ l. IsKept l (touches_in c own) kept) (sym structure) (kept_stays s more (touches_in c own) kept sound on k))),
-      (λ k. kept_returns s more (touches_in c own) kept sound on (subst (λ l. IsKept l (touches_in c own) kept) structure (subst (λ l. IsKept (structure_of h) l kept) same k))),
+      (λ k. subst (λ l. IsKept (structure_of h) l kept) (sym same)
+          (subst (λ l. IsKept l (touches_in c own) kept) (sym structure) (kept_stays s more (touches_in c own) kept sound on k))),
+      (λ k. kept_returns s more (touches_in c own) kept sound on
+          (subst (λ l. IsKept l (touches_in c own) kept) structure (subst (λ l. IsKept (structure_of h) l kept) same k))),
     )
 
 pub kept_tells_merge : KeptTellsMerge

@@ -1,5 +1,6 @@
 -- Members of lists, and lists with falling tickets.
-use Rattle.std.proofs.Common.{◌≡◌, ℕ, zero, suc, ◌+◌, ◌<◌, Bool, true, false, cond, List, [], ◌∷◌, ◌++◌, ◌⊎◌, inl, inr, refl, sym, ap, ◌∙◌, subst, arith, true≢false, map}
+use Rattle.std.proofs.Common.{◌≡◌, ℕ, zero, suc, ◌+◌, ◌<◌, Bool, true, false, cond, List, [], ◌∷◌}
+use Rattle.std.proofs.Common.{◌++◌, ◌⊎◌, inl, inr, refl, sym, ap, ◌∙◌, subst, arith, true≢false, map}
 use Rattle.std.proofs.lemmas.Option.{same_Some}
 use Rattle.fut_base.proofs.Members.{among_left, among_right, among_split}
 use Rattle.std.proofs.lemmas.List.{reverse-append, map-append, append-nil}

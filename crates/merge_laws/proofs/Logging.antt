@@ -1,5 +1,6 @@
 -- The holders' parts of a log share out its draws.
-use Rattle.std.proofs.Common.{◌≡◌, ◌≢◌, ℕ, zero, suc, ◌+◌, ◌<◌, ◌≤◌, Bool, true, false, cond, ◌==◌, if◌then◌else◌, List, [], ◌∷◌, ◌++◌, length, ◌⊎◌, inl, inr, refl, sym, ap, ◌∙◌, subst, arith, true≢false, map}
+use Rattle.std.proofs.Common.{◌≡◌, ◌≢◌, ℕ, zero, suc, ◌+◌, ◌<◌, ◌≤◌, Bool, true, false, cond, ◌==◌, if◌then◌else◌, List}
+use Rattle.std.proofs.Common.{[], ◌∷◌, ◌++◌, length, ◌⊎◌, inl, inr, refl, sym, ap, ◌∙◌, subst, arith, true≢false, map}
 use Rattle.std.proofs.lemmas.Bool.{cases_eq as same_or_not, eq-eqb, eqb-true}
 use Rattle.fut_base.proofs.Members.{among_left, among_right, among_split}
 use Rattle.fut_base.proofs.Cases.{by_eq}
@@ -63,7 +64,8 @@ part_drew test (y ∷ log) z a = elim (in_part (length log, y.1) (test y) (picke
 
 drew_part : (test : Draw → Bool) (log : List Draw) (k : ℕ) (x : Draw) → Drew log k x → test x ≡ true → Among (k, x.1) (picked test log)
 drew_part test [] k x d is = absurd d
-drew_part test (y ∷ log) k x (inl d) is = part_in (length log, y.1) (test y) (picked test log) (k, x.1) (inr (ap test d.1 ∙ is, ap (λ i. (i, y.1)) d.0 ∙ ap (λ (w : Draw). (k, w.1)) d.1))
+drew_part test (y ∷ log) k x (inl d) is =
+    part_in (length log, y.1) (test y) (picked test log) (k, x.1) (inr (ap test d.1 ∙ is, ap (λ i. (i, y.1)) d.0 ∙ ap (λ (w : Draw). (k, w.1)) d.1))
 drew_part test (y ∷ log) k x (inr d) is = part_in (length log, y.1) (test y) (picked test log) (k, x.1) (inl (drew_part test log k x d is))
 
 rising_end : (xs : List Drawn) (z : Drawn) → Rises xs → ((x : Drawn) → Among x xs → x.0 < z.0) → Rises (xs ++ z ∷ [])
@@ -140,7 +142,8 @@ count_end k z xs =
 
 -- a new draw is counted by its holder
 count_new : (k : ℕ) (z : Drawn) (xs : List Drawn) (b : Bool) → z.0 ≡ k → count_by (at k) xs ≡ 0 → count_by (at k) (if b then xs ++ z ∷ [] else xs) ≡ weight b
-count_new k z xs true e none = let c = count_end k z xs in let w = weight_on (at k z) (eq-eqb z.0 k e) in let t : weight true ≡ 1 = refl in omega (arith, c, w, none, t)
+count_new k z xs true e none = let c = count_end k z xs in let w = weight_on (at k z) (eq-eqb z.0 k e) in let t : weight true ≡ 1 =
+    refl in omega (arith, c, w, none, t)
 count_new k z xs false e none = none
 
 count_old : (k : ℕ) (z : Drawn) (xs : List Drawn) (b : Bool) → z.0 ≢ k → count_by (at k) (if b then xs ++ z ∷ [] else xs) ≡ count_by (at k) xs
@@ -171,8 +174,11 @@ count_once h (suc n) log k x d le lt =
     let b = count_both k (own_of h log) (all_of (owns_from (h + 1) n log)) in
     let o = count_own log k h x d in
     elim (same_or_not x.0 h) [
-      | inl same ↦ (let w = weight_on (x.0 == h) (eq-eqb x.0 h same) in let r = count_later (h + 1) n log k x d (omega (arith, same)) in omega (arith, b, o, w, r))
-      | inr ne ↦ (let w = weight_off (x.0 == h) (differ x.0 h ne) in let r = count_once (h + 1) n log k x d (omega (arith, le, ne)) (omega (arith, lt)) in omega (arith, b, o, w, r))
+      | inl same ↦
+          (let w = weight_on (x.0 == h) (eq-eqb x.0 h same) in let r = count_later (h + 1) n log k x d (omega (arith, same)) in omega (arith, b, o, w, r))
+      | inr ne ↦
+          (let w = weight_off (x.0 == h) (differ x.0 h ne) in let r =
+          count_once (h + 1) n log k x d (omega (arith, le, ne)) (omega (arith, lt)) in omega (arith, b, o, w, r))
     ]
 
 -- ---- the history
@@ -199,10 +205,12 @@ log_merges n log of k e = (
   λ a. (
       let d = owns_drew 0 n log (k, e) a in
       get_of (history_of log) k e
-      (subst (λ (l : List Event). Stood l k e) (sym (reverse-reverse (map (λ (y : Draw). y.1) log))) (subst (λ (z : Event). Stood (map (λ (y : Draw). y.1) log) k z) d.2 (drew_stood log k d.0 d.1)))),
+      (subst (λ (l : List Event). Stood l k e) (sym (reverse-reverse (map (λ (y : Draw). y.1) log)))
+      (subst (λ (z : Event). Stood (map (λ (y : Draw). y.1) log) k z) d.2 (drew_stood log k d.0 d.1)))),
   λ g. (
       let d = stood_drew log k e (subst (λ (l : List Event). Stood l k e) (reverse-reverse (map (λ (y : Draw). y.1) log)) (stood_of (history_of log) k e g)) in
-      subst (λ (z : Event). Among (k, z) (all_of (owns_from 0 n log))) d.2 (drew_owns 0 n log k d.0 d.1 (omega arith) (from_zero d.0.0 n (of d.0 (drew_among log k d.0 d.1))))),
+      subst (λ (z : Event). Among (k, z) (all_of (owns_from 0 n log))) d.2
+      (drew_owns 0 n log k d.0 d.1 (omega arith) (from_zero d.0.0 n (of d.0 (drew_among log k d.0 d.1))))),
 )
 
 pub log_is_shared : LogIsShared
@@ -222,7 +230,8 @@ log_has_traces n log t of =
       each = λ z. (
         (λ a. (
             let d = part_drew (λ x. x.1.task == t) log z a in
-            let there : Among (z.0, d.0.1) (all_of (owns_from 0 n log)) = drew_owns 0 n log z.0 d.0 d.1 (omega arith) (from_zero d.0.0 n (of d.0 (drew_among log z.0 d.0 d.1))) in
+            let there : Among (z.0, d.0.1) (all_of (owns_from 0 n log)) =
+            drew_owns 0 n log z.0 d.0 d.1 (omega arith) (from_zero d.0.0 n (of d.0 (drew_among log z.0 d.0 d.1))) in
             (subst (λ (e : Event). Among (z.0, e) (all_of (owns_from 0 n log))) d.2 there, ap (λ (e : Event). e.task) (sym d.2) ∙ eqb-true d.0.1.task t d.3))),
         (λ a. (
             let d = owns_drew 0 n log z a.0 in
@@ -255,4 +264,5 @@ log_gives_run P n place log traces x = (run P n place log traces x, (shared P n 
 
 pub log_is_legal : LogIsLegal
 log_is_legal P n place log traces some x =
-    merge_is_legal P (length log) place (own_of 0 log) (owns_from 1 n log) traces (history_of log) some (run P n place log traces x) (shared P n place log traces x).1
+    merge_is_legal P (length log) place (own_of 0 log) (owns_from 1 n log) traces (history_of log) some (run P n place log traces x)
+    (shared P n place log traces x).1

@@ -1,5 +1,6 @@
 -- What the machine of a history has: the state of each task by its trace, and the values of the cells.
-use Rattle.std.proofs.Common.{◌≡◌, ◌≢◌, ℕ, zero, suc, ◌+◌, ◌<◌, Bool, cond, ◌==◌, if◌then◌else◌, List, [], ◌∷◌, ◌++◌, length, inl, inr, refl, sym, ap, ◌∙◌, subst, arith, ℤ, pos, replicate}
+use Rattle.std.proofs.Common.{◌≡◌, ◌≢◌, ℕ, zero, suc, ◌+◌, ◌<◌, Bool, cond, ◌==◌, if◌then◌else◌, List, [], ◌∷◌}
+use Rattle.std.proofs.Common.{◌++◌, length, inl, inr, refl, sym, ap, ◌∙◌, subst, arith, ℤ, pos, replicate}
 use Rattle.fut_base.proofs.Cases.{by_eq}
 use Rattle.std.proofs.lemmas.List.{reverse-append}
 use Rattle.std.specs.Prelude.{Some, reverse, filter, slice_get, slice_set}
@@ -23,7 +24,8 @@ use Rattle.merge_laws.specs.Parts.{Makes, StartsAs, value_after, value_left}
 
 -- ---- ways of a task
 
-pub follows_split : (P : tree.Program) (s : TaskState) (xs ys : List Event) (t : TaskState) → Follows P s (xs ++ ys) t → (u : TaskState) × Follows P s xs u × Follows P u ys t
+pub follows_split : (P : tree.Program) (s : TaskState) (xs ys : List Event) (t : TaskState) → Follows P s (xs ++ ys) t
+    → (u : TaskState) × Follows P s xs u × Follows P u ys t
 follows_split P s [] ys t f = (s, refl, f)
 follows_split P s (x ∷ xs) ys t (at, stands, answers, rest) =
     let k = follows_split P (effect_of at x.action) xs ys t rest in (k.0, (at, stands, answers, k.1), k.2)
@@ -65,7 +67,8 @@ acts_none t (e ∷ past) none = acts_off t e past (none e (inl refl)) ∙ acts_n
 
 -- ---- starts
 
-pub starts_more : (P : tree.Program) (e : Event) (past : List Event) (t which : ℕ) (args : List Value) → StartsAs P past t which args → StartsAs P (e ∷ past) t which args
+pub starts_more : (P : tree.Program) (e : Event) (past : List Event) (t which : ℕ) (args : List Value) → StartsAs P past t which args
+    → StartsAs P (e ∷ past) t which args
 starts_more P e past t which args (inl s) = inl s
 starts_more P e past t which args (inr (d, a, m)) = inr (d, inr a, m)
 
@@ -90,7 +93,8 @@ came_tasks P (x ∷ past) m (q, c, step) e (inr a) =
 -- the state of each task is that of its trace, from its start
 abbrev pub StatesOf : tree.Program → List Event → Machine → Type 0
 StatesOf P past m =
-    (t : ℕ) (r : Running) → slice_get m.tasks t ≡ Some r → (args : List Value) × StartsAs P past t r.which args × IsStateAfter P r.which args (acts_of t past) r.state
+    (t : ℕ) (r : Running) → slice_get m.tasks t ≡ Some r → (args : List Value) × StartsAs P past t r.which args
+    × IsStateAfter P r.which args (acts_of t past) r.state
 
 -- the state of a task that was just made
 new_state : (P : tree.Program) (q : Machine) (e : Event) (past : List Event) (r : Running) (t which : ℕ) (args : List Value) (x : Running)
@@ -102,7 +106,8 @@ new_state P q e past r t which args x makes none same state = (
   subst (λ (l : List Event). Follows P (start_state P x.which args) l x.state) (sym none) (ap (λ w. start_state P w args) (sym same) ∙ state),
 )
 
-made_state : (P : tree.Program) (q : Machine) (e : Event) (past : List Event) (a : Action) → e.action ≡ a → (r : Running) → e.task < length q.tasks → Permits q r a
+made_state : (P : tree.Program) (q : Machine) (e : Event) (past : List Event) (a : Action) → e.action ≡ a → (r : Running) → e.task < length q.tasks
+    → Permits q r a
     → ((d : Event) → Among d past → d.task < length q.tasks)
     → (t : ℕ) (x : Running) → Behind q.tasks (child_of P r a) t x
     → (args : List Value) × StartsAs P (e ∷ past) t x.which args × IsStateAfter P x.which args (acts_of t (e ∷ past)) x.state
@@ -143,13 +148,15 @@ came_states P [] m c t r h =
 came_states P (e ∷ past) m (q, c, step) t r h =
     let ih = came_states P past q c in
     let below : e.task < length q.tasks = get_below q.tasks e.task step.task step.present in
-    elim (get_after q.tasks (child_of P step.task e.action) e.task (acted step.task step.stop e.action) step.task step.present t r (ap (λ (z : Machine). slice_get z.tasks t) (sym step.gives) ∙ h)) [
+    elim (get_after q.tasks (child_of P step.task e.action) e.task (acted step.task step.stop e.action) step.task step.present t r
+    (ap (λ (z : Machine). slice_get z.tasks t) (sym step.gives) ∙ h)) [
       | inl own ↦ (
           let k = ih e.task step.task step.present in
           let which : step.task.which ≡ r.which = ap (λ (y : Running). y.which) own.1 in
           let state : effect_of step.stop e.action ≡ r.state = ap (λ (y : Running). y.state) own.1 in
           let next : Follows P (start_state P step.task.which k.0) (acts_of e.task past ++ e ∷ []) (effect_of step.stop e.action) =
-          follows_join P (start_state P step.task.which k.0) (acts_of e.task past) (e ∷ []) step.task.state (effect_of step.stop e.action) k.2 (step.stop, step.stands, step.answers, refl) in
+          follows_join P (start_state P step.task.which k.0) (acts_of e.task past) (e ∷ []) step.task.state (effect_of step.stop e.action) k.2
+          (step.stop, step.stands, step.answers, refl) in
           let all : Follows P (start_state P step.task.which k.0) (acts_of e.task (e ∷ past)) (effect_of step.stop e.action) =
           subst (λ (l : List Event). Follows P (start_state P step.task.which k.0) l (effect_of step.stop e.action)) (sym (acts_on e.task e past refl)) next in
           let Q : ℕ → ℕ → TaskState → Type 0 = λ i w s. (args : List Value) × StartsAs P (e ∷ past) i w args × IsStateAfter P w args (acts_of i (e ∷ past)) s in
@@ -159,8 +166,12 @@ came_states P (e ∷ past) m (q, c, step) t r h =
           subst (λ s. Q t r.which s) state q2)
       | inr other ↦ elim other [
         | inl old ↦ (
-            let k = ih t r old.1 in
-            (k.0, starts_more P e past t r.which k.0 k.1, subst (λ (l : List Event). Follows P (start_state P r.which k.0) l r.state) (sym (acts_off t e past (λ s. old.0 (sym s)))) k.2))
+            let k = ih t r old.1 in (
+              k.0,
+              starts_more P e past t r.which k.0 k.1,
+              subst (λ (l : List Event). Follows P (start_state P r.which k.0) l r.state)
+                  (sym (acts_off t e past (λ s. old.0 (sym s)))) k.2,
+            ))
         | inr new ↦ made_state P q e past e.action refl step.task below step.permits (came_tasks P past q c) t r new
       ]
     ]
@@ -197,7 +208,8 @@ cell_next (Gets _ _ _) cells c old h = h
 cell_next (Ends _) cells c old h = h
 
 -- each cell of the program has the value that the events left
-pub came_cells : (P : tree.Program) (past : List Event) (m : Machine) → Came P past m → (c : ℕ) → c < cell_count P → slice_get m.cells c ≡ Some (value_left c past)
+pub came_cells : (P : tree.Program) (past : List Event) (m : Machine) → Came P past m → (c : ℕ) → c < cell_count P
+    → slice_get m.cells c ≡ Some (value_left c past)
 came_cells P [] m came c lt = subst (λ (z : Machine). slice_get z.cells c ≡ Some (pos 0)) came (get_zeros (cell_count P) c lt)
 came_cells P (e ∷ past) m (q, came, step) c lt =
     ap (λ (z : Machine). slice_get z.cells c) step.gives ∙ cell_next e.action q.cells c (value_left c past) (came_cells P past q came c lt)

@@ -1,5 +1,6 @@
 -- The merge of the lists of a run.
-use Rattle.std.proofs.Common.{◌≡◌, ◌≢◌, ℕ, ◌≤◌, Bool, true, false, cond, ◌==◌, if◌then◌else◌, List, [], ◌∷◌, length, inl, inr, refl, sym, ap, ◌∙◌, subst, arith, true≢false, ℤ}
+use Rattle.std.proofs.Common.{◌≡◌, ◌≢◌, ℕ, ◌≤◌, Bool, true, false, cond, ◌==◌, if◌then◌else◌, List, []}
+use Rattle.std.proofs.Common.{◌∷◌, length, inl, inr, refl, sym, ap, ◌∙◌, subst, arith, true≢false, ℤ}
 use Rattle.fut_base.proofs.Members.{among_left, among_right, among_split}
 use Rattle.fut_base.proofs.Cases.{by_eq}
 use Rattle.std.proofs.lemmas.List.{reverse-reverse}
@@ -20,7 +21,8 @@ use Rattle.access_shards.specs.Histories.{IsStanding, AreStanding}
 use Rattle.access_shards.proofs.Histories.{Stood, stood_lt, same_current, same_last}
 use Rattle.run_laws.specs.Laws.{HasCells}
 use Rattle.run_laws.proofs.Pasts.{kept_of, past_is}
-use Rattle.merge_laws.specs.Parts.{Drawn, events_in, all_of, IsMerge, IsAccessIn, value_after, value_left, IsRight, ReadsAreRight, StartsAs, past_below, IsSharedRun}
+use Rattle.merge_laws.specs.Parts.{Drawn, events_in, all_of, IsMerge, IsAccessIn, value_after, value_left}
+use Rattle.merge_laws.specs.Parts.{IsRight, ReadsAreRight, StartsAs, past_below, IsSharedRun}
 use Rattle.merge_laws.specs.Laws.{MergeIsLegal, BookIsStructure, TracesAreParts}
 use Rattle.merge_laws.proofs.Lists.{among_reverse, among_map, filter_among, among_all, all_among, among_get, get_among, reverse_map, reverse_kept}
 use Rattle.merge_laws.proofs.Machines.{of_task, acts_of}
@@ -109,7 +111,8 @@ value_next place c e (Writes cell value) is rest v h =
     (λ ne. either ne (place cell == place c))
   where
     either : cell ≢ c → (b : Bool) → value_left c (cond b (e ∷ rest) rest) ≡ v
-    either ne true = ap (λ z. value_after c z (value_left c rest)) is ∙ by_eq (λ t. (if t then value else value_left c rest) ≡ v) cell c (λ s. absurd (ne s)) (λ _. h)
+    either ne true = ap (λ z. value_after c z (value_left c rest)) is ∙ by_eq (λ t. (if t then value else value_left c rest) ≡ v) cell c (λ s. absurd (ne s))
+        (λ _. h)
     either ne false = h
 value_next place c e (Spawns _ _ _ _ _) is rest v h = h
 value_next place c e (Creates _ _ _ _ _) is rest v h = h
@@ -158,13 +161,16 @@ skip_if k x rest true off = ap (λ t. cond t (x ∷ filter (λ (y : Drawn). nat_
 skip_if k x rest false off = refl
 
 take_if : (k : ℕ) (x : Drawn) (rest : List Drawn) (b : Bool) → nat_lt x.0 k ≡ true
-    → filter (λ (y : Drawn). nat_lt y.0 k) (cond b (x ∷ rest) rest) ≡ cond b (x ∷ filter (λ (y : Drawn). nat_lt y.0 k) rest) (filter (λ (y : Drawn). nat_lt y.0 k) rest)
+    → filter (λ (y : Drawn). nat_lt y.0 k) (cond b (x ∷ rest) rest) ≡ cond b (x ∷ filter (λ (y : Drawn). nat_lt y.0 k) rest)
+    (filter (λ (y : Drawn). nat_lt y.0 k) rest)
 take_if k x rest true on = ap (λ t. cond t (x ∷ filter (λ (y : Drawn). nat_lt y.0 k) rest) (filter (λ (y : Drawn). nat_lt y.0 k) rest)) on
 take_if k x rest false on = refl
 
 below_skip : (k : ℕ) (e : Event) (past : List Event) → k ≤ length past → below_of k (e ∷ past) ≡ below_of k past
 below_skip k e past le =
-    ap events_in (skip_if k (length past, e) (picked by_structure past) (by_structure e) (false_from_ne_true (nat_lt (length past) k) (λ t. (let l = ltb-true (length past) k t in omega (arith, l, le)))))
+    ap events_in
+    (skip_if k (length past, e) (picked by_structure past) (by_structure e)
+    (false_from_ne_true (nat_lt (length past) k) (λ t. (let l = ltb-true (length past) k t in omega (arith, l, le)))))
 
 below_all : (k : ℕ) (past : List Event) → length past ≤ k → filter (λ (x : Drawn). nat_lt x.0 k) (picked by_structure past) ≡ picked by_structure past
 below_all k [] le = refl
@@ -200,7 +206,8 @@ none_some x h = cc
 
 -- ---- the run
 
-module _ (P : tree.Program) (n : ℕ) (place : ℕ → ℕ) (book : List Drawn) (shards : List (List Drawn)) (traces : List (ℕ × List Drawn)) (h : List Event) (run : IsSharedRun P n place book shards traces) (merge : IsMerge (book ∷ shards) h) where
+module _ (P : tree.Program) (n : ℕ) (place : ℕ → ℕ) (book : List Drawn) (shards : List (List Drawn)) (traces : List (ℕ × List Drawn)) (h : List Event)
+    (run : IsSharedRun P n place book shards traces) (merge : IsMerge (book ∷ shards) h) where
   abbrev owns : List (List Drawn)
   owns = book ∷ shards
 
@@ -208,7 +215,8 @@ module _ (P : tree.Program) (n : ℕ) (place : ℕ → ℕ) (book : List Drawn) 
   book_structural x a =
       sound_structural (reverse (events_in book)) run.sound x.1 (among_reverse x.1 (events_in book) (among_map (λ (y : Drawn). y.1) x book a))
 
-  shard_access : (x : Drawn) → Among x (all_of shards) → (i : ℕ) × (own : List Drawn) × (slice_get shards i ≡ Some own) × Among x own × IsAccessIn place i x.1.action
+  shard_access : (x : Drawn) → Among x (all_of shards) → (i : ℕ) × (own : List Drawn) × (slice_get shards i ≡ Some own) × Among x own
+      × IsAccessIn place i x.1.action
   shard_access x a =
       let k = all_among x shards a in
       let g = among_get k.0 shards k.1 in
@@ -269,7 +277,8 @@ module _ (P : tree.Program) (n : ℕ) (place : ℕ → ℕ) (book : List Drawn) 
   trace_is r a =
       let w = run.whole r a in
       own_events owns h merge r.1 (of_task r.0)
-      (own_is owns h merge r.1 (of_task r.0) w.rising (λ x b. (let k = (w.each x).0 b in (k.0, eq-eqb x.1.task r.0 k.1))) (λ x b test. (w.each x).1 (b, eqb-true x.1.task r.0 test)))
+      (own_is owns h merge r.1 (of_task r.0) w.rising (λ x b. (let k = (w.each x).0 b in (k.0, eq-eqb x.1.task r.0 k.1)))
+      (λ x b test. (w.each x).1 (b, eqb-true x.1.task r.0 test)))
 
   pub trace_acts : (r : ℕ × List Drawn) → Among r traces → events_in r.1 ≡ acts_of r.0 (reverse h)
   trace_acts r a = sym (reverse-reverse (events_in r.1)) ∙ ap reverse (trace_is r a)
@@ -306,7 +315,8 @@ module _ (P : tree.Program) (n : ℕ) (place : ℕ → ℕ) (book : List Drawn) 
           let tr = run.tasks (k.0, x) (stood_drawn owns h merge k.0 x k.1) in
           let own : Among (t, tr.0) traces = subst (λ i. Among (i, tr.0) traces) task tr.1 in
           let trace = run.traced (t, tr.0) own in
-          let one = starts_one P (kept_of (reverse h)) structure_sound t trace.which which trace.args args (book_starts t trace.which trace.args trace.starts) (starts_kept P (reverse h) t which args starts) in (
+          let one = starts_one P (kept_of (reverse h)) structure_sound t trace.which which trace.args args (book_starts t trace.which trace.args trace.starts)
+          (starts_kept P (reverse h) t which args starts) in (
             trace.state,
             subst (λ (l : List Event). IsStateAfter P which args l trace.state) (trace_acts (t, tr.0) own)
                 (subst (λ w. IsStateAfter P w args (events_in tr.0) trace.state) one.0

@@ -1,5 +1,6 @@
 -- Entries of other tasks leave what is known of a trace as it is.
-use Rattle.std.proofs.Common.{◌≡◌, ◌≢◌, ℕ, ◌<◌, ◌≤◌, Bool, true, false, cond, ◌==◌, if◌then◌else◌, List, [], ◌∷◌, ◌++◌, inl, inr, refl, sym, ap, ◌∙◌, subst, arith}
+use Rattle.std.proofs.Common.{◌≡◌, ◌≢◌, ℕ, ◌<◌, ◌≤◌, Bool, true, false, cond, ◌==◌, if◌then◌else◌}
+use Rattle.std.proofs.Common.{List, [], ◌∷◌, ◌++◌, inl, inr, refl, sym, ap, ◌∙◌, subst, arith}
 use Rattle.fut_base.proofs.Members.{among_left, among_split}
 use Rattle.fut_base.proofs.Cases.{by_eq}
 use Rattle.std.proofs.lemmas.List.{reverse-append, map-append}
@@ -39,7 +40,8 @@ moves_none past by t s (Ends _) ne lt may = refl
 last_off : (q t : ℕ) (b : Bool) (x y : Option ℕ) → q ≢ t → (if (q == t) && b then x else y) ≡ y
 last_off q t b x y ne = by_eq (λ z. (if z && b then x else y) ≡ y) q t (λ e. absurd (ne e)) (λ _. refl)
 
-pub stands_on : (later past : List Event) (e : Event) → IsSoundPast (later ++ past) → ((d : Event) → Among d later → d.task ≢ e.task) → IsStanding past e → IsStanding (later ++ past) e
+pub stands_on : (later past : List Event) (e : Event) → IsSoundPast (later ++ past) → ((d : Event) → Among d later → d.task ≢ e.task) → IsStanding past e
+    → IsStanding (later ++ past) e
 stands_on [] past e sound other x = x
 stands_on (d ∷ later) past e sound other x =
     let ih : IsStanding (later ++ past) e = stands_on later past e sound.0 (λ y a. other y (inr a)) x in
@@ -66,12 +68,20 @@ front : (k : ℕ) (xs : List Drawn) → Rises xs → (rest : List Drawn) × (fil
 front k [] r = ([], refl)
 front k (x ∷ xs) r = elim (cases_lt x.0 k) [
   | inl lt ↦ (
-      let f = front k xs r.1 in
-      (f.0, ap (λ t. cond t (x ∷ filter (λ (y : Drawn). nat_lt y.0 k) xs) (filter (λ (y : Drawn). nat_lt y.0 k) xs) ++ f.0) (lt-ltb x.0 k lt) ∙ ap (λ l. x ∷ l) f.1))
+      let f = front k xs r.1 in (
+        f.0,
+        ap (λ t. cond t (x ∷ filter (λ (y : Drawn). nat_lt y.0 k) xs) (filter (λ (y : Drawn). nat_lt y.0 k) xs) ++ f.0) (lt-ltb x.0 k lt)
+            ∙ ap (λ l. x ∷ l) f.1,
+      ))
   | inr ge ↦ (
     x ∷ xs,
     ap (λ (l : List Drawn). l ++ x ∷ xs)
-        (none_below k (x ∷ xs) (λ y a. elim a [ inl s ↦ (let e : x.0 ≡ y.0 = ap (λ (z : Drawn). z.0) s in omega (arith, e, ge)) | inr b ↦ (let l : x.0 < y.0 = r.0 y b in omega (arith, l, ge)) ])),
+        (none_below k (x ∷ xs)
+        (λ y a. elim a [
+          | inl s ↦ (let e : x.0 ≡ y.0 = ap (λ (z : Drawn). z.0) s in omega (arith, e, ge))
+          | inr b ↦
+              (let l : x.0 < y.0 = r.0 y b in omega (arith, l, ge))
+        ])),
   )
 ]
 
@@ -102,15 +112,18 @@ traced_by_more P book more task trace rising sound own other x =
       which = x.which;
       args = x.args;
       state = x.state;
-      starts = subst (λ (l : List Event). StartsAs P l task x.which x.args) (sym (events_append book more)) (starts_on P (events_in book) (events_in more) task x.which x.args x.starts);
+      starts = subst (λ (l : List Event). StartsAs P l task x.which x.args) (sym (events_append book more))
+          (starts_on P (events_in book) (events_in more) task x.which x.args x.starts);
       leads = x.leads;
       stands = λ y a. (
           let k : ℕ = y.0 in
-          let whole : IsSoundPast (past_below k more ++ past_below k book) = subst IsSoundPast (past_append k book more) (past_sound k (book ++ more) rising sound) in
+          let whole : IsSoundPast (past_below k more ++ past_below k book) =
+          subst IsSoundPast (past_append k book more) (past_sound k (book ++ more) rising sound) in
           subst (λ (l : List Event). IsStanding l y.1) (sym (past_append k book more))
           (stands_on (past_below k more) (past_below k book) y.1 whole
           (λ d b e. (
-          let f = map_among (λ (z : Drawn). z.1) d (filter (λ (z : Drawn). nat_lt z.0 k) more) (reverse_among d (events_in (filter (λ (z : Drawn). nat_lt z.0 k) more)) b) in
+          let f = map_among (λ (z : Drawn). z.1) d (filter (λ (z : Drawn). nat_lt z.0 k) more)
+          (reverse_among d (events_in (filter (λ (z : Drawn). nat_lt z.0 k) more)) b) in
           other f.0 (filter_among (λ (z : Drawn). nat_lt z.0 k) f.0 more f.1).0 (ap (λ (z : Event). z.task) f.2 ∙ e ∙ own y a)))
           (x.stands y a)));
     }
@@ -118,7 +131,9 @@ traced_by_more P book more task trace rising sound own other x =
 -- ---- one more entry
 
 one_below : (j k : ℕ) (e : Event) (b : Bool) → j ≤ k → past_below j (if b then (k, e) ∷ [] else []) ≡ []
-one_below j k e true le = ap (λ l. reverse (events_in l)) (none_below j ((k, e) ∷ []) (λ x a. elim a [ inl s ↦ (let t : k ≡ x.0 = ap (λ (z : Drawn). z.0) s in omega (arith, t, le)) | inr n ↦ absurd n ]))
+one_below j k e true le =
+    ap (λ l. reverse (events_in l))
+    (none_below j ((k, e) ∷ []) (λ x a. elim a [ inl s ↦ (let t : k ≡ x.0 = ap (λ (z : Drawn). z.0) s in omega (arith, t, le)) | inr n ↦ absurd n ]))
 one_below j k e false le = refl
 
 all_below : (k : ℕ) (xs : List Drawn) → ((x : Drawn) → Among x xs → x.0 < k) → filter (λ (x : Drawn). nat_lt x.0 k) xs ≡ xs
@@ -133,18 +148,24 @@ traced_by_one P book task trace x k e stop low early stands answers here = (
     which = x.which;
     args = x.args;
     state = effect_of stop e.action;
-    starts = subst (λ (l : List Event). StartsAs P l task x.which x.args) (sym (events_append book own)) (starts_on P (events_in book) (events_in own) task x.which x.args x.starts);
+    starts = subst (λ (l : List Event). StartsAs P l task x.which x.args) (sym (events_append book own))
+        (starts_on P (events_in book) (events_in own) task x.which x.args x.starts);
     leads =
         subst (λ (l : List Event). IsStateAfter P x.which x.args l (effect_of stop e.action)) (sym (events_append trace ((k, e) ∷ [])))
         (follows_join P (start_state P x.which x.args) (events_in trace) (e ∷ []) x.state (effect_of stop e.action) x.leads (stop, stands, answers, refl));
     stands = λ y a. elim (among_split y trace ((k, e) ∷ []) a) [
       | inl old ↦ (
           let lt = early y old in
-          subst (λ (l : List Event). IsStanding l y.1) (sym (past_append y.0 book own ∙ ap (λ (l : List Event). l ++ past_below y.0 book) (one_below y.0 k e (structural e.action) (omega (arith, lt))))) (x.stands y old))
+          subst (λ (l : List Event). IsStanding l y.1)
+          (sym
+          (past_append y.0 book own ∙ ap (λ (l : List Event). l ++ past_below y.0 book) (one_below y.0 k e (structural e.action) (omega (arith, lt)))))
+          (x.stands y old))
       | inr new ↦ elim new [
         | inl same ↦ subst (λ (z : Drawn). IsStanding (past_below z.0 (book ++ own)) z.1) same (
             subst (λ (l : List Event). IsStanding l e)
-            (sym (past_append k book own ∙ ap (λ (l : List Event). l ++ past_below k book) (one_below k k e (structural e.action) (omega arith)) ∙ ap (λ l. reverse (events_in l)) (all_below k book low)))
+            (sym
+            (past_append k book own ∙ ap (λ (l : List Event). l ++ past_below k book) (one_below k k e (structural e.action) (omega arith))
+            ∙ ap (λ l. reverse (events_in l)) (all_below k book low)))
             here)
         | inr none ↦ absurd none
       ]

@@ -1,6 +1,7 @@
 -- Events whose structure is sound, whose reads are right, which stand on current strands, and whose traces have states, are
 -- steps one after the other.
-use Rattle.std.proofs.Common.{◌≡◌, ℕ, zero, suc, ◌+◌, ◌<◌, Bool, true, false, cond, List, [], ◌∷◌, ◌++◌, length, inl, inr, refl, sym, ap, ◌∙◌, subst, arith, true≢false}
+use Rattle.std.proofs.Common.{◌≡◌, ℕ, zero, suc, ◌+◌, ◌<◌, Bool, true, false, cond, List, [], ◌∷◌}
+use Rattle.std.proofs.Common.{◌++◌, length, inl, inr, refl, sym, ap, ◌∙◌, subst, arith, true≢false}
 use Rattle.std.proofs.lemmas.Option.{same_Some}
 use Rattle.std.proofs.lemmas.List.{reverse-append}
 use Rattle.std.proofs.lemmas.Bool.{cases_Bool, cases_lt, cases_eq as same_or_not}
@@ -38,9 +39,12 @@ sound_tail true e rest h = h.0
 sound_tail false e rest h = h
 
 -- the trace of a task in the events before the last one has a state too
-state_before : (P : tree.Program) (e : Event) (past : List Event) (t which : ℕ) (args : List Value) (s : TaskState) → IsStateAfter P which args (acts_of t (e ∷ past)) s → (u : TaskState) × IsStateAfter P which args (acts_of t past) u
+state_before : (P : tree.Program) (e : Event) (past : List Event) (t which : ℕ) (args : List Value) (s : TaskState)
+    → IsStateAfter P which args (acts_of t (e ∷ past)) s → (u : TaskState) × IsStateAfter P which args (acts_of t past) u
 state_before P e past t which args s f = elim (same_or_not e.task t) [
-  | inl same ↦ (let k = follows_split P _ (acts_of t past) (e ∷ []) s (subst (λ (l : List Event). IsStateAfter P which args l s) (acts_on t e past same) f) in (k.0, k.1))
+  | inl same ↦
+      (let k = follows_split P _ (acts_of t past) (e ∷ []) s (subst (λ (l : List Event). IsStateAfter P which args l s) (acts_on t e past same) f) in
+      (k.0, k.1))
   | inr ne ↦ (s, subst (λ (l : List Event). IsStateAfter P which args l s) (acts_off t e past ne) f)
 ]
 
@@ -72,7 +76,8 @@ module _ (past : List Event) (m : Machine) (x : Mirrors past m) where
     | inl lt ↦ (
         let k = get_some m.tasks t lt in
         let e : last_of past t ≡ option_map (λ (v : Value). k.0.strand) k.0.value = (x.each t k.0 k.1).last in
-        subst (λ (o : Option Running). IsSome (option_and_then (λ (r : Running). r.value) o)) (sym k.1) (valued k.0.strand k.0.value (subst (λ (o : Option ℕ). IsSome o) e h)))
+        subst (λ (o : Option Running). IsSome (option_and_then (λ (r : Running). r.value) o)) (sym k.1)
+        (valued k.0.strand k.0.value (subst (λ (o : Option ℕ). IsSome o) e h)))
     | inr ge ↦ absurd (none_some (last_of past t) (x.none t ge).last h)
   ]
     where
@@ -107,7 +112,8 @@ module _ (past : List Event) (m : Machine) (x : Mirrors past m) where
   permits t r (Ends value) got st may = tt
 
 -- a read has the value of its cell
-permits_access : (P : tree.Program) → HasCells P → (past : List Event) (m : Machine) → Came P past m → (r : Running) (at : TaskState) (a : Action) → structural a ≡ false → Answers (wish_of P at) a → IsRight past a → Permits m r a
+permits_access : (P : tree.Program) → HasCells P → (past : List Event) (m : Machine) → Came P past m → (r : Running) (at : TaskState) (a : Action)
+    → structural a ≡ false → Answers (wish_of P at) a → IsRight past a → Permits m r a
 permits_access P some past m c r at (Reads cell value) st answers right =
     let below : cell < cell_count P = subst (λ z. AccessesBelow (cell_count P) z) answers (wish_below P some at) in
     came_cells P past m c cell below ∙ ap (λ z. Some z) right
@@ -122,7 +128,8 @@ no_value : (s : ℕ) (o : Option Value) → option_map (λ (v : Value). s) o ≡
 no_value s None h = refl
 no_value s (Some v) h = cc
 
-step_of : (P : tree.Program) (m : Machine) (e : Event) (r : Running) (at : TaskState) → slice_get m.tasks e.task ≡ Some r → r.value ≡ None → r.strand ≡ e.strand → StandsAt r.state at → Answers (wish_of P at) e.action
+step_of : (P : tree.Program) (m : Machine) (e : Event) (r : Running) (at : TaskState) → slice_get m.tasks e.task ≡ Some r → r.value ≡ None
+    → r.strand ≡ e.strand → StandsAt r.state at → Answers (wish_of P at) e.action
     → Permits m r e.action → (n : Machine) × IsStep P m e n
 step_of P m e r at present running strand stands answers permits = (
   after P m e r at,
@@ -130,7 +137,8 @@ step_of P m e r at present running strand stands answers permits = (
 )
 
 -- the event at which a task stands, where its trace and one more event have a state
-stop_of : (P : tree.Program) (trace : List Event) (e : Event) (which : ℕ) (args : List Value) (s t : TaskState) → IsStateAfter P which args trace s → IsStateAfter P which args (trace ++ e ∷ []) t
+stop_of : (P : tree.Program) (trace : List Event) (e : Event) (which : ℕ) (args : List Value) (s t : TaskState) → IsStateAfter P which args trace s
+    → IsStateAfter P which args (trace ++ e ∷ []) t
     → (at : TaskState) × StandsAt s at × Answers (wish_of P at) e.action
 stop_of P trace e which args s t own more =
     let parts = follows_split P (start_state P which args) trace (e ∷ []) t more in
@@ -151,7 +159,8 @@ next_step P some e past m x c =
     let run : r.value ≡ None = no_value r.strand r.value (sym own.last ∙ same_last past e.task ∙ stand.running) in
     let state = came_states P past m c e.task r k.1 in
     let more = x.states e.task r.which state.0 (starts_more P e past e.task r.which state.0 state.1) in
-    let stop = stop_of P (acts_of e.task past) e r.which state.0 r.state more.0 state.2 (subst (λ (l : List Event). IsStateAfter P r.which state.0 l more.0) (acts_on e.task e past refl) more.1) in
+    let stop = stop_of P (acts_of e.task past) e r.which state.0 r.state more.0 state.2
+    (subst (λ (l : List Event). IsStateAfter P r.which state.0 l more.0) (acts_on e.task e past refl) more.1) in
     step_of P m e r stop.0 k.1 run strand stop.1 stop.2
     (elim (cases_Bool (structural e.action)) [
       | inl st ↦ (
@@ -170,7 +179,8 @@ came_from P some (e ∷ past) x =
 leads : (P : tree.Program) (past : List Event) (m : Machine) → Came P past m → Leads P (opening P) (reverse past) m
 leads P [] m c = c
 leads P (e ∷ past) m (q, c, step) =
-    subst (λ (l : List Event). Leads P (opening P) l m) (sym (reverse-append (e ∷ []) past)) (leads_further P (opening P) (reverse past) e q m (leads P past q c) step)
+    subst (λ (l : List Event). Leads P (opening P) l m) (sym (reverse-append (e ∷ []) past))
+    (leads_further P (opening P) (reverse past) e q m (leads P past q c) step)
 
 pub tied_is_legal : (P : tree.Program) → HasCells P → (past : List Event) → Tied P past → IsLegal P (reverse past)
 tied_is_legal P some past x = let k = came_from P some past x in (k.0, leads P past k.0 k.1)

@@ -1,5 +1,6 @@
 -- A history and the lists into which its entries were shared out.
-use Rattle.std.proofs.Common.{◌≡◌, ℕ, zero, suc, ◌<◌, ◌≤◌, Bool, true, false, cond, ◌==◌, List, [], ◌∷◌, length, inl, inr, refl, sym, ap, ◌∙◌, subst, arith, true≢false}
+use Rattle.std.proofs.Common.{◌≡◌, ℕ, zero, suc, ◌<◌, ◌≤◌, Bool, true, false, cond, ◌==◌, List, []}
+use Rattle.std.proofs.Common.{◌∷◌, length, inl, inr, refl, sym, ap, ◌∙◌, subst, arith, true≢false}
 use Rattle.std.proofs.lemmas.Option.{same_Some}
 use Rattle.std.proofs.lemmas.Bool.{cases_eq as same_or_not, eq-eqb, eqb-true}
 use Rattle.fut_base.proofs.Cases.{by_eq}
@@ -11,7 +12,8 @@ use Rattle.access_shards.proofs.Histories.{Stood, stood_lt, stood_of, get_of}
 use Rattle.event_clock.specs.Parts.{Rises}
 use Rattle.merge_laws.specs.Parts.{Drawn, events_in, all_of, ShareOut, IsMerge}
 use Rattle.merge_laws.specs.Laws.{MergeExists, MergeIsOne}
-use Rattle.merge_laws.proofs.Lists.{IsFalling, among_filter, filter_among, among_reverse, reverse_among, rising_falls, filter_falls, same_list, has_counted, one_counted, reverse_map}
+use Rattle.merge_laws.proofs.Lists.{IsFalling, among_filter, filter_among, among_reverse, reverse_among}
+use Rattle.merge_laws.proofs.Lists.{rising_falls, filter_falls, same_list, has_counted, one_counted, reverse_map}
 
 -- the entries of a history with their places, the newest first
 abbrev pub placed : List Event → List Drawn
@@ -36,7 +38,8 @@ placed_falls (e ∷ past) = ((λ y a. stood_lt past y.0 y.1 (placed_stood past y
 abbrev pub picked : (Event → Bool) → List Event → List Drawn
 picked f past = filter (λ (x : Drawn). f x.1) (placed past)
 
-picked_if : (f : Event → Bool) (e : Event) (k : ℕ) (rest : List Drawn) (b : Bool) → events_in (cond b ((k, e) ∷ rest) rest) ≡ cond b (e ∷ events_in rest) (events_in rest)
+picked_if : (f : Event → Bool) (e : Event) (k : ℕ) (rest : List Drawn) (b : Bool)
+    → events_in (cond b ((k, e) ∷ rest) rest) ≡ cond b (e ∷ events_in rest) (events_in rest)
 picked_if f e k rest true = refl
 picked_if f e k rest false = refl
 
@@ -52,12 +55,18 @@ module _ (owns : List (List Drawn)) (h : List Event) (merge : IsMerge owns h) wh
   stood_drawn k e s = (merge k e).1 (get_of h k e s)
 
   -- a list that has the entries which pass a test has them in their order
-  pub own_is : (own : List Drawn) (f : Event → Bool) → Rises own → ((x : Drawn) → Among x own → Among x (all_of owns) × (f x.1 ≡ true)) → ((x : Drawn) → Among x (all_of owns) → f x.1 ≡ true → Among x own)
+  pub own_is : (own : List Drawn) (f : Event → Bool) → Rises own → ((x : Drawn) → Among x own → Among x (all_of owns) × (f x.1 ≡ true))
+      → ((x : Drawn) → Among x (all_of owns) → f x.1 ≡ true → Among x own)
       → reverse own ≡ picked f (reverse h)
   own_is own f rising to back =
-      same_list (reverse own) (picked f (reverse h)) (rising_falls own rising) (filter_falls (λ (x : Drawn). f x.1) (placed (reverse h)) (placed_falls (reverse h)))
-      (λ x a. (let k = to x (reverse_among x own a) in among_filter (λ (y : Drawn). f y.1) x (placed (reverse h)) (stood_placed (reverse h) x.0 x.1 (drawn_stood x k.0)) k.1))
-      (λ x a. (let k = filter_among (λ (y : Drawn). f y.1) x (placed (reverse h)) a in among_reverse x own (back x (stood_drawn x.0 x.1 (placed_stood (reverse h) x k.0)) k.1)))
+      same_list (reverse own) (picked f (reverse h)) (rising_falls own rising)
+      (filter_falls (λ (x : Drawn). f x.1) (placed (reverse h)) (placed_falls (reverse h)))
+      (λ x a.
+      (let k = to x (reverse_among x own a) in among_filter (λ (y : Drawn). f y.1) x (placed (reverse h))
+      (stood_placed (reverse h) x.0 x.1 (drawn_stood x k.0)) k.1))
+      (λ x a.
+      (let k = filter_among (λ (y : Drawn). f y.1) x (placed (reverse h)) a in
+      among_reverse x own (back x (stood_drawn x.0 x.1 (placed_stood (reverse h) x k.0)) k.1)))
 
   pub own_events : (own : List Drawn) (f : Event → Bool) → reverse own ≡ picked f (reverse h) → reverse (events_in own) ≡ filter f (reverse h)
   own_events own f is = reverse_map (λ (x : Drawn). x.1) own ∙ ap events_in is ∙ picked_events f (reverse h)
@@ -104,7 +113,8 @@ merge_exists n owns share =
       length-reverse b.0 ∙ b.1.long,
     )
 
-same_items : (xs ys : List Event) → ((k : ℕ) (e : Event) → slice_get xs k ≡ Some e → slice_get ys k ≡ Some e) → ((k : ℕ) (e : Event) → slice_get ys k ≡ Some e → slice_get xs k ≡ Some e) → xs ≡ ys
+same_items : (xs ys : List Event) → ((k : ℕ) (e : Event) → slice_get xs k ≡ Some e → slice_get ys k ≡ Some e)
+    → ((k : ℕ) (e : Event) → slice_get ys k ≡ Some e → slice_get xs k ≡ Some e) → xs ≡ ys
 same_items [] [] f g = refl
 same_items [] (y ∷ ys) f g = absurd (let k = g 0 y refl in cc)
 same_items (x ∷ xs) [] f g = absurd (let k = f 0 x refl in cc)

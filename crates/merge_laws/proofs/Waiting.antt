@@ -27,7 +27,8 @@ use Rattle.merge_laws.proofs.Ending.{kept, mirrors, state_there}
 
 -- ---- creates
 
-create_if : (e : Event) (a : Action) (rest : List Event) → e.action ≡ a → count_by (λ (d : Event). creates d.action) (cond (structural a) (e ∷ rest) rest) ≡ weight (creates e.action) + count_by (λ (d : Event). creates d.action) rest
+create_if : (e : Event) (a : Action) (rest : List Event) → e.action ≡ a → count_by (λ (d : Event). creates d.action) (cond (structural a) (e ∷ rest) rest)
+    ≡ weight (creates e.action) + count_by (λ (d : Event). creates d.action) rest
 create_if e (Reads _ _) rest is = let w : weight (creates e.action) ≡ 0 = ap (λ z. weight (creates z)) is in omega (arith, w)
 create_if e (Writes _ _) rest is = let w : weight (creates e.action) ≡ 0 = ap (λ z. weight (creates z)) is in omega (arith, w)
 create_if e (Spawns _ _ _ _ _) rest is = count_next (λ (d : Event). creates d.action) e rest
@@ -78,7 +79,8 @@ allowed_by_book P n place book shards traces h run merge r a x m leads stop stan
     let at : step.stop ≡ stop = stands_at_one x.state step.stop stop (subst (λ z. StandsAt z step.stop) state step.stands) stands in
     subst (λ z. MayGoOn (reverse (events_in book)) r.0 (wish_of P z)) at
     (subst (λ (l : List Event). MayGoOn l r.0 (wish_of P step.stop)) (sym (kept P n place book shards traces h run merge m leads))
-    (goes_on (kept_of (reverse h)) m (mirrors P n place book shards traces h run merge m leads) r.0 step.task present (wish_of P step.stop) e.action step.answers step.permits))
+    (goes_on (kept_of (reverse h)) m (mirrors P n place book shards traces h run merge m leads) r.0 step.task present
+    (wish_of P step.stop) e.action step.answers step.permits))
 
 pub none_waits : NoneWaits
 none_waits P n place book shards traces h typed run merge f =
@@ -93,7 +95,8 @@ none_waits P n place book shards traces h typed run merge f =
         let runs = first.1.running in
         let back = kept P n place book shards traces h run merge m leads in
         let view = mirrors P n place book shards traces h run merge m leads in
-        let below : t < next_task (reverse (events_in book)) = (let k = get_below m.tasks t r runs.0 in let c = view.tasks in let o = ap next_task back in omega (arith, k, c, o)) in
+        let below : t < next_task (reverse (events_in book)) =
+        (let k = get_below m.tasks t r runs.0 in let c = view.tasks in let o = ap next_task back in omega (arith, k, c, o)) in
         let value : value_of (reverse (events_in book)) t ≡ None = ap (λ (p : List Event). value_of p t) back ∙ (view.each t r runs.0).value ∙ runs.1 in
         absurd (elim (f t below) [
           | inl ended ↦ no_some (value_of (reverse (events_in book)) t) value ended

@@ -1,5 +1,6 @@
 -- The merge laws. Lists of events called `past` have the newest event first.
-use Rattle.std.specs.Prelude.{◌≡◌, ◌≢◌, ◌↔◌, ℕ, ◌<◌, ◌==◌, IsSome, if◌then◌else◌, List, [], ◌∷◌, ◌++◌, length, reverse, filter, option_map, option_to_list, slice_get, Some}
+use Rattle.std.specs.Prelude.{◌≡◌, ◌≢◌, ◌↔◌, ℕ, ◌<◌, ◌==◌, IsSome, if◌then◌else◌, List, [], ◌∷◌, ◌++◌}
+use Rattle.std.specs.Prelude.{length, reverse, filter, option_map, option_to_list, slice_get, Some}
 use Rattle.fut_base.specs.declared.record.Value.{Value}
 use Rattle.fut_base.specs.declared.event.Event.{Event}
 use Rattle.fut_base.specs.Events.{structural, structure_of}
@@ -120,7 +121,8 @@ TouchesAreDrawn =
 
 -- with fewer structural events that have the strands the same is kept
 abbrev pub KeptReturns : Type 0
-KeptReturns = (s more : List Event) (past : List (Touch Kind)) (kept : Kept) → IsSound (s ++ more) → AreOn s past → IsKept (s ++ more) past kept → IsKept s past kept
+KeptReturns = (s more : List Event) (past : List (Touch Kind)) (kept : Kept) → IsSound (s ++ more) → AreOn s past → IsKept (s ++ more) past kept
+    → IsKept s past kept
 
 -- what is kept of a cell by the paths of a beginning of the book that has the strands of all its accesses is what is kept
 -- of it in the merge
@@ -128,7 +130,8 @@ abbrev pub KeptIsSame : Type 0
 KeptIsSame =
     (P : tree.Program) (n : ℕ) (place : ℕ → ℕ) (book : List Drawn) (shards : List (List Drawn)) (traces : List (ℕ × List Drawn)) (h : List Event)
     → IsSharedRun P n place book shards traces → IsMerge (book ∷ shards) h
-    → (c : ℕ) (own : List Drawn) (s more : List Event) (kept : Kept) → slice_get shards (place c) ≡ Some own → events_in book ≡ s ++ more → AreOn s (touches_in c own)
+    → (c : ℕ) (own : List Drawn) (s more : List Event) (kept : Kept) → slice_get shards (place c) ≡ Some own → events_in book ≡ s ++ more
+    → AreOn s (touches_in c own)
     → IsKept s (touches_in c own) kept ↔ IsKept (structure_of h) (touches_of c h) kept
 
 -- so it tells the races of the cell in the merge
@@ -136,5 +139,6 @@ abbrev pub KeptTellsMerge : Type 0
 KeptTellsMerge =
     (P : tree.Program) (n : ℕ) (place : ℕ → ℕ) (book : List Drawn) (shards : List (List Drawn)) (traces : List (ℕ × List Drawn)) (h : List Event)
     → IsSharedRun P n place book shards traces → IsMerge (book ∷ shards) h
-    → (c : ℕ) (own : List Drawn) (s more : List Event) (kept : Kept) → slice_get shards (place c) ≡ Some own → events_in book ≡ s ++ more → AreOn s (touches_in c own)
+    → (c : ℕ) (own : List Drawn) (s more : List Event) (kept : Kept) → slice_get shards (place c) ≡ Some own → events_in book ≡ s ++ more
+    → AreOn s (touches_in c own)
     → IsKept s (touches_in c own) kept → TellsRaces h c kept

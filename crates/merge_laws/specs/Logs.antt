@@ -48,4 +48,5 @@ LogGivesRun =
 
 -- so the log is a legal history
 abbrev pub LogIsLegal : Type 0
-LogIsLegal = (P : tree.Program) (n : ℕ) (place : ℕ → ℕ) (log : List (ℕ × Event)) (traces : List (ℕ × List Drawn)) → HasCells P → IsLoggedRun P n place log traces → IsLegal P (history_of log)
+LogIsLegal = (P : tree.Program) (n : ℕ) (place : ℕ → ℕ) (log : List (ℕ × Event)) (traces : List (ℕ × List Drawn)) → HasCells P
+    → IsLoggedRun P n place log traces → IsLegal P (history_of log)

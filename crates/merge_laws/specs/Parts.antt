@@ -1,6 +1,7 @@
 -- A run whose entries were shared out into own lists, each entry with the ticket that it drew. Lists of events called
 -- `past` have the newest event first; all other lists have the oldest first.
-use Rattle.std.specs.Prelude.{◌≡◌, ◌↔◌, ℕ, ◌<◌, ◌==◌, IsSome, nat_lt, if◌then◌else◌, List, [], ◌∷◌, map, reverse, filter, flat_map, count_by, slice_get, Some, ℤ, pos, ◌⊎◌}
+use Rattle.std.specs.Prelude.{◌≡◌, ◌↔◌, ℕ, ◌<◌, ◌==◌, IsSome, nat_lt, if◌then◌else◌, List, [], ◌∷◌}
+use Rattle.std.specs.Prelude.{map, reverse, filter, flat_map, count_by, slice_get, Some, ℤ, pos, ◌⊎◌}
 use Rattle.fut_base.specs.declared.record.Value.{Value}
 use Rattle.fut_base.specs.declared.event.Event.{Event}
 use Rattle.fut_base.specs.declared.event.Action.{Action}
@@ -101,7 +102,8 @@ pub record IsTraced (P : tree.Program) (book : List Drawn) (task : ℕ) (trace :
 -- ---- the run
 
 -- what is known of a run whose entries were shared out: a list of structural entries, lists of accesses, and the traces of tasks
-pub record IsSharedRun (P : tree.Program) (n : ℕ) (place : ℕ → ℕ) (book : List Drawn) (shards : List (List Drawn)) (traces : List (ℕ × List Drawn)) : Type 0 where
+pub record IsSharedRun (P : tree.Program) (n : ℕ) (place : ℕ → ℕ) (book : List Drawn) (shards : List (List Drawn))
+    (traces : List (ℕ × List Drawn)) : Type 0 where
   pub tickets : ShareOut n (book ∷ shards)
   pub sound : IsSound (events_in book)
   pub shared : AreShards place shards

@@ -57,7 +57,8 @@ abbrev pub ended_program : tree.Program
 ended_program =
     record {
       first = tree.CellsOf (codes "a") 1;
-      others = tree.TaskOf (codes "main") [] 0 (tree.Then (tree.Return' (literal 0)) (tree.Then (tree.Store (codes "a") (literal 0) (literal 1)) tree.Done)) ∷ [];
+      others = tree.TaskOf (codes "main") [] 0
+          (tree.Then (tree.Return' (literal 0)) (tree.Then (tree.Store (codes "a") (literal 0) (literal 1)) tree.Done)) ∷ [];
     }
 
 abbrev pub ended_book : List Drawn

@@ -25,8 +25,8 @@ use Rattle.access_shards.proofs.Logging.{log_same}
 use Rattle.access_shards.specs.Histories.{kind_of, touches_of, IsInStep}
 use Rattle.access_shards.proofs.Growing.{current_may_come}
 use Rattle.access_shards.proofs.Histories.{accesses_are_late}
-use Rattle.race_finder.specs.declared.doer.Doer.{Doer}
-use Rattle.race_finder.specs.Finding.{IsDoerOf, AreDoersOf, AreLogsOf, Knows}
+use Rattle.race_finder.specs.declared.track.Track.{Track}
+use Rattle.race_finder.specs.Finding.{IsTrackOf, AreTracksOf, AreLogsOf, Knows}
 use Rattle.race_finder.proofs.Lists.{set_get, push_get}
 use Rattle.race_finder.proofs.Next.{touched, untouched, structure_same, standing, current_of, last_in, kind_else, kind_plain}
 
@@ -41,7 +41,7 @@ pub strand_known : (s : List Event) (english hebrew : List ℕ) → IsSound s �
     → v.number < length english
 strand_known s english hebrew sound o v of = let k = strands_in s english hebrew sound o in omega (arith, k.0, of.there)
 
-pub view_of : (s : List Event) (english hebrew : List ℕ) (t : ℕ) (d : Doer) → IsSound s → AreOrders s english hebrew → IsDoerOf s t d
+pub view_of : (s : List Event) (english hebrew : List ℕ) (t : ℕ) (d : Track) → IsSound s → AreOrders s english hebrew → IsTrackOf s t d
     → IsViewOf s d.reach d.at (length english) english hebrew
 view_of s english hebrew t d sound o of =
     record {
@@ -52,9 +52,9 @@ view_of s english hebrew t d sound o of =
           (subst (λ l. AreOrders l english hebrew) (sym (append-nil s)) o);
     }
 
-pub doer_known : (s : List Event) (english hebrew : List ℕ) (t : ℕ) (d : Doer) → IsSound s → AreOrders s english hebrew → IsDoerOf s t d
+pub track_known : (s : List Event) (english hebrew : List ℕ) (t : ℕ) (d : Track) → IsSound s → AreOrders s english hebrew → IsTrackOf s t d
     → (d.at.number < length english) × AllKnown (length english) d.reach
-doer_known s english hebrew t d sound o of = (
+track_known s english hebrew t d sound o of = (
   strand_known s english hebrew sound o d.at of.strand,
   λ w there. strand_known s english hebrew sound
       o w (of.table.homes w there),
@@ -76,8 +76,8 @@ kept_known s english hebrew sound o past (Clean writer readers) k = λ a there. 
 ]
 
 -- what is kept with the access that an event is
-pub kept_next : (h : List Event) (e : Event) (c : ℕ) (kind : Kind) (d : Doer) (english hebrew : List ℕ) (place : ℕ) (old new : Logged)
-    → IsInStep h → IsInStep (h ++ e ∷ []) → kind_of c e.action ≡ Some kind → AreOrders (structure_of h) english hebrew → IsDoerOf (structure_of h) e.task d
+pub kept_next : (h : List Event) (e : Event) (c : ℕ) (kind : Kind) (d : Track) (english hebrew : List ℕ) (place : ℕ) (old new : Logged)
+    → IsInStep h → IsInStep (h ++ e ∷ []) → kind_of c e.action ≡ Some kind → AreOrders (structure_of h) english hebrew → IsTrackOf (structure_of h) e.task d
     → place ≡ length h
     → KeepsOneMore d.reach d.at place kind (length english) english hebrew old new
     → IsLogOf (structure_of h) (touches_of c h) old → IsLogOf (structure_of (h ++ e ∷ [])) (touches_of c (h ++ e ∷ [])) new
@@ -144,38 +144,39 @@ logs_same h logs c old new is same level order a =
     }
 
 -- all that is known with one more access
-pub knows_access : (h : List Event) (e : Event) (c : ℕ) (kind : Kind) (english hebrew english' hebrew' : List ℕ) (doers : List Doer)
-    (logs logs' : List Logged) (count count' : ℕ) → IsInStep (h ++ e ∷ []) → kind_of c e.action ≡ Some kind → Knows h english hebrew doers logs count
+pub knows_access : (h : List Event) (e : Event) (c : ℕ) (kind : Kind) (english hebrew english' hebrew' : List ℕ) (tracks : List Track)
+    (logs logs' : List Logged) (count count' : ℕ) → IsInStep (h ++ e ∷ []) → kind_of c e.action ≡ Some kind → Knows h english hebrew tracks logs count
     → english' ≡ english → hebrew' ≡ hebrew
-    → AreLogsOf (h ++ e ∷ []) logs' → length logs' ≤ 2 ^ 32 → count' ≡ count + 1 → Knows (h ++ e ∷ []) english' hebrew' doers logs' count'
-knows_access h e c kind english hebrew english' hebrew' doers logs logs' count count' steps is k en he cells few counted =
+    → AreLogsOf (h ++ e ∷ []) logs' → length logs' ≤ 2 ^ 32 → count' ≡ count + 1 → Knows (h ++ e ∷ []) english' hebrew' tracks logs' count'
+knows_access h e c kind english hebrew english' hebrew' tracks logs logs' count count' steps is k en he cells few counted =
     let same = structure_same h e (kind_plain e.action c kind is) in
     record {
       steps = steps;
       orders = subst (λ s. AreOrders s english' hebrew') (sym same) (record { english_is = en ∙ k.orders.english_is; hebrew_is = he ∙ k.orders.hebrew_is });
-      tasks = subst (λ s. AreDoersOf s doers) (sym same) k.tasks;
+      tasks = subst (λ s. AreTracksOf s tracks) (sym same) k.tasks;
       cells = cells;
       few = few;
       length_is = (let n = length-append h (e ∷ []) in omega (arith, n, k.length_is, counted));
     }
 
 -- the task of an event that may come next is there
-pub task_in : (h : List Event) (e : Event) (english hebrew : List ℕ) (doers : List Doer) (logs : List Logged) (count task : ℕ)
-    → Knows h english hebrew doers logs count → IsInStep (h ++ e ∷ []) → e.task ≡ task → task < length doers
-task_in h e english hebrew doers logs count task k steps is =
+pub task_in : (h : List Event) (e : Event) (english hebrew : List ℕ) (tracks : List Track) (logs : List Logged) (count task : ℕ)
+    → Knows h english hebrew tracks logs count → IsInStep (h ++ e ∷ []) → e.task ≡ task → task < length tracks
+task_in h e english hebrew tracks logs count task k steps is =
     let stand = standing h e steps in
     let lt = ((linked (reverse (structure_of h)) k.steps.sound).cur e.task e.strand (current_of h e.task ∙ stand.stands)).0 in
     omega (arith, lt, is, k.tasks.count)
 
-pub doer_of : (h : List Event) (english hebrew : List ℕ) (doers : List Doer) (logs : List Logged) (count task : ℕ) (d : Doer)
-    → Knows h english hebrew doers logs count → slice_get doers task ≡ Some d
+pub track_of : (h : List Event) (english hebrew : List ℕ) (tracks : List Track) (logs : List Logged) (count task : ℕ) (d : Track)
+    → Knows h english hebrew tracks logs count → slice_get tracks task ≡ Some d
     → (d.at.number < length english) × AllKnown (length english) d.reach
-doer_of h english hebrew doers logs count task d k at = doer_known (structure_of h) english hebrew task d k.steps.sound k.orders (k.tasks.each task d at)
+track_of h english hebrew tracks logs count task d k at = track_known (structure_of h) english hebrew task d k.steps.sound k.orders (k.tasks.each task d at)
 
 -- what stays known where logs are added and given room
-pub knows_logs : (h : List Event) (english hebrew : List ℕ) (doers : List Doer) (logs logs' : List Logged) (count : ℕ) → Knows h english hebrew doers logs count
-    → AreLogsOf h logs' → length logs' ≤ 2 ^ 32 → Knows h english hebrew doers logs' count
-knows_logs h english hebrew doers logs logs' count k cells few = record {
+pub knows_logs : (h : List Event) (english hebrew : List ℕ) (tracks : List Track) (logs logs' : List Logged) (count : ℕ)
+    → Knows h english hebrew tracks logs count
+    → AreLogsOf h logs' → length logs' ≤ 2 ^ 32 → Knows h english hebrew tracks logs' count
+knows_logs h english hebrew tracks logs logs' count k cells few = record {
   steps = k.steps;
   orders = k.orders;
   tasks = k.tasks;
@@ -185,26 +186,26 @@ knows_logs h english hebrew doers logs logs' count k cells few = record {
 }
 
 -- a cell's log in a list that was made longer and given room
-module _ (h : List Event) (english hebrew : List ℕ) (doers : List Doer) (logs grown : List Logged) (count cell : ℕ) (old room : Logged)
-    (k : Knows h english hebrew doers logs count) (cells : AreLogsOf h grown) (few : length grown ≤ 2 ^ 32)
+module _ (h : List Event) (english hebrew : List ℕ) (tracks : List Track) (logs grown : List Logged) (count cell : ℕ) (old room : Logged)
+    (k : Knows h english hebrew tracks logs count) (cells : AreLogsOf h grown) (few : length grown ≤ 2 ^ 32)
     (at : slice_get grown cell ≡ Some old) (same : room.kept ≡ old.kept) (level : room.rise ≡ old.rise) (order : room.sorted ≡ old.sorted) where
-  pub knows_room : Knows h english hebrew doers (set grown cell room) count
-  knows_room = knows_logs h english hebrew doers logs (set grown cell room) count k (logs_same h grown cell old room at same level order cells)
+  pub knows_room : Knows h english hebrew tracks (set grown cell room) count
+  knows_room = knows_logs h english hebrew tracks logs (set grown cell room) count k (logs_same h grown cell old room at same level order cells)
       (let n = length-set grown cell room in omega (arith, n, few))
 
   pub room_known : (l : Logged) → slice_get (set grown cell room) cell ≡ Some l → AreKnown (length english) l.kept
   room_known l is = kept_known (structure_of h) english hebrew k.steps.sound k.orders (touches_of cell h) l.kept (knows_room.cells.each cell l is).kept
 
-  pub access_taken : (e : Event) (kind : Kind) (task : ℕ) (d : Doer) (l new : Logged) (english' hebrew' : List ℕ) (count' : ℕ) → IsInStep (h ++ e ∷ [])
+  pub access_taken : (e : Event) (kind : Kind) (task : ℕ) (d : Track) (l new : Logged) (english' hebrew' : List ℕ) (count' : ℕ) → IsInStep (h ++ e ∷ [])
       → e.task ≡ task → kind_of cell e.action ≡ Some kind
-      → slice_get doers task ≡ Some d → cell < length grown → slice_get (set grown cell room) cell ≡ Some l
+      → slice_get tracks task ≡ Some d → cell < length grown → slice_get (set grown cell room) cell ≡ Some l
       → KeepsOneMore d.reach d.at count kind (length english) english hebrew l new
-      → english' ≡ english → hebrew' ≡ hebrew → count' ≡ count + 1 → Knows (h ++ e ∷ []) english' hebrew' doers (set (set grown cell room) cell new) count'
+      → english' ≡ english → hebrew' ≡ hebrew → count' ≡ count + 1 → Knows (h ++ e ∷ []) english' hebrew' tracks (set (set grown cell room) cell new) count'
   access_taken e kind task d l new english' hebrew' count' steps task_is kind_is d_at there l_at keeps en he counted =
       let n = length-set grown cell room in
       let m = length-set (set grown cell room) cell new in
-      let of : IsDoerOf (structure_of h) e.task d = subst (λ t. IsDoerOf (structure_of h) t d) (sym task_is) (k.tasks.each task d d_at) in
+      let of : IsTrackOf (structure_of h) e.task d = subst (λ t. IsTrackOf (structure_of h) t d) (sym task_is) (k.tasks.each task d d_at) in
       let kept = kept_next h e cell kind d english hebrew count l new k.steps steps kind_is k.orders of k.length_is keeps (knows_room.cells.each cell l l_at) in
-      knows_access h e cell kind english hebrew english' hebrew' doers (set grown cell room) (set (set grown cell room) cell new) count count'
+      knows_access h e cell kind english hebrew english' hebrew' tracks (set grown cell room) (set (set grown cell room) cell new) count count'
       steps kind_is knows_room en he
       (logs_next h e cell kind (set grown cell room) new kind_is (omega (arith, n, there)) knows_room.cells kept) (omega (arith, n, m, few)) counted

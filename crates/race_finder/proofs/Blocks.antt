@@ -26,11 +26,11 @@ use Rattle.reach_table.specs.Tabled.{and_then, AfterGet, MergesOneMore}
 use Rattle.reach_table.specs.Telling.{AllKnown, HasTable, OrdersAgree}
 use Rattle.reach_table.proofs.Events.{merge_begins}
 use Rattle.reach_table.proofs.Putting.{all_together}
-use Rattle.race_finder.specs.declared.doer.Doer.{Doer}
+use Rattle.race_finder.specs.declared.track.Track.{Track}
 use Rattle.race_finder.specs.Places.{Placed}
 use Rattle.race_finder.specs.Finding.{last_if}
 use Rattle.race_finder.specs.Acting.{AreOf, MaySync}
-use Rattle.race_finder.proofs.Accesses.{strands_in, view_of, doer_known, strand_known}
+use Rattle.race_finder.proofs.Accesses.{strands_in, view_of, track_known, strand_known}
 use Rattle.race_finder.proofs.Structural.{followed}
 
 ended_last : (b : Bool) (m n : ℕ) → last_if b m ≡ Some n → last_if b m ≡ Some m
@@ -55,7 +55,7 @@ last_there past sp t some = elim (cases_lt t (next_task past)) [
 pub value_there : (past : List Event) → IsSoundPast past → (t : ℕ) (v : Value) → value_of past t ≡ Some v → t < next_task past
 value_there past sp t v is = is_task past sp t (value_ended past sp t v is)
 
-module _ (s : List Event) (places : Placed) (doers : List Doer) (lists : Lists) (of : AreOf s places doers)
+module _ (s : List Event) (places : Placed) (tracks : List Track) (lists : Lists) (of : AreOf s places tracks)
     (en : lists.english.order ≡ places.english) (he : lists.hebrew.order ≡ places.hebrew) where
   abbrev known : ℕ
   known = length lists.english.order
@@ -63,16 +63,16 @@ module _ (s : List Event) (places : Placed) (doers : List Doer) (lists : Lists) 
   orders : AreOrders s lists.english.order lists.hebrew.order
   orders = record { english_is = en ∙ of.orders.english_is; hebrew_is = he ∙ of.orders.hebrew_is }
 
-  agree : (t : ℕ) (d : Doer) → slice_get doers t ≡ Some d → OrdersAgree s known lists.english.order lists.hebrew.order
+  agree : (t : ℕ) (d : Track) → slice_get tracks t ≡ Some d → OrdersAgree s known lists.english.order lists.hebrew.order
   agree t d at = (view_of s lists.english.order lists.hebrew.order t d of.sound orders (of.tasks.each t d at)).orders
 
-  pub all_known : (t : ℕ) (d : Doer) → slice_get doers t ≡ Some d → (d.at.number < known) × AllKnown known d.reach
-  all_known t d at = doer_known s lists.english.order lists.hebrew.order t d of.sound orders (of.tasks.each t d at)
+  pub all_known : (t : ℕ) (d : Track) → slice_get tracks t ≡ Some d → (d.at.number < known) × AllKnown known d.reach
+  all_known t d at = track_known s lists.english.order lists.hebrew.order t d of.sound orders (of.tasks.each t d at)
 
-  pub two_known : (t u : ℕ) (d o : Doer) → slice_get doers t ≡ Some d → slice_get doers u ≡ Some o → AllKnown known (together d.reach o.reach (Some o.at))
+  pub two_known : (t u : ℕ) (d o : Track) → slice_get tracks t ≡ Some d → slice_get tracks u ≡ Some o → AllKnown known (together d.reach o.reach (Some o.at))
   two_known t u d o at ot w there = all_together known d.reach o.reach o.at (all_known t d at).1 (all_known u o ot).1 (all_known u o ot).0 w there
 
-  pub merged_known : (own : ℕ) (strands : List ℕ) (reach : List Strand) (u : ℕ) (o : Doer) → IsMergedOf s own strands reach → slice_get doers u ≡ Some o
+  pub merged_known : (own : ℕ) (strands : List ℕ) (reach : List Strand) (u : ℕ) (o : Track) → IsMergedOf s own strands reach → slice_get tracks u ≡ Some o
       → AllKnown known (together reach o.reach None)
   merged_known own strands reach u o m ot w there = elim (among_or w (reach ++ o.reach) [] there) [
     | inl k ↦ elim (among_or w reach o.reach k) [
@@ -82,8 +82,8 @@ module _ (s : List Event) (places : Placed) (doers : List Doer) (lists : Lists) 
     | inr k ↦ absurd k
   ]
 
-  pub got_table : (task future : ℕ) (d o : Doer) (table : List Strand) (value : Value) (strand : ℕ) → slice_get doers task ≡ Some d
-      → slice_get doers future ≡ Some o
+  pub got_table : (task future : ℕ) (d o : Track) (table : List Strand) (value : Value) (strand : ℕ) → slice_get tracks task ≡ Some d
+      → slice_get tracks future ≡ Some o
       → AfterGet lists d.at.future d.reach o.reach (Some o.at) table → IsSound (and_then s task d.at.number (Gets future value strand))
       → HasTable (and_then s task d.at.number (Gets future value strand)) strand table
   got_table task future d o table value strand at ot after sound =
@@ -99,7 +99,7 @@ module _ (s : List Event) (places : Placed) (doers : List Doer) (lists : Lists) 
   lasts_more : (past : List Event) (ts : List ℕ) (t v : ℕ) → last_of past t ≡ Some v → lasts_of past (ts ++ t ∷ []) ≡ lasts_of past ts ++ v ∷ []
   lasts_more past ts t v is = filter_map-append (λ u. last_of past u) ts (t ∷ []) ∙ ap (λ o. lasts_of past ts ++ cons_option o []) is
 
-  pub merged_more : (task i child : ℕ) (d o : Doer) (reach reach' : List Strand) → slice_get doers task ≡ Some d → slice_get doers child ≡ Some o
+  pub merged_more : (task i child : ℕ) (d o : Track) (reach reach' : List Strand) → slice_get tracks task ≡ Some d → slice_get tracks child ≡ Some o
       → i < length d.block.items → child ≡ get_or d.block.items i 0 → IsSome (last_of (reverse s) child)
       → MergesOneMore lists d.at.future reach o.reach None reach' → IsMergedOf s d.at.future (d.at.number ∷ lasts_of (reverse s) (take i d.block.items)) reach
       → IsMergedOf s d.at.future (d.at.number ∷ lasts_of (reverse s) (take (i + 1) d.block.items)) reach'
@@ -121,10 +121,10 @@ module _ (s : List Event) (places : Placed) (doers : List Doer) (lists : Lists) 
       ended_some (Some x) h is = is ∙ ended_last o.ended o.at.number x (sym is)
 
 -- nothing is merged yet
-pub merged_none : (s : List Event) (places : Placed) (doers : List Doer) (task : ℕ) (d : Doer) (reach : List Strand) → reach ≡ d.reach
-    → MaySync s places doers task → slice_get doers task ≡ Some d
+pub merged_none : (s : List Event) (places : Placed) (tracks : List Track) (task : ℕ) (d : Track) (reach : List Strand) → reach ≡ d.reach
+    → MaySync s places tracks task → slice_get tracks task ≡ Some d
     → IsMergedOf s d.at.future (d.at.number ∷ lasts_of (reverse s) (take 0 d.block.items)) reach
-merged_none s places doers task d reach is may at =
+merged_none s places tracks task d reach is may at =
     let of = may.of.tasks.each task d at in
     subst (λ l. IsMergedOf s d.at.future (d.at.number ∷ l) reach) (none (reverse s) d.block.items)
     (subst (λ l. IsMergedOf s d.at.future (d.at.number ∷ []) l) (sym is) (merge_begins s d.at d.reach may.of.sound of.strand of.table))
@@ -139,34 +139,34 @@ child_ended past [] i h lt = absurd (omega (arith, lt))
 child_ended past (t ∷ ts) zero h lt = h.0
 child_ended past (t ∷ ts) (suc i) h lt = child_ended past ts i h.1 (omega (arith, lt))
 
-pub block_child : (s : List Event) (places : Placed) (doers : List Doer) (task : ℕ) (d : Doer) (i child : ℕ) → MaySync s places doers task
-    → slice_get doers task ≡ Some d → i < length d.block.items → child ≡ get_or d.block.items i 0
-    → IsSome (last_of (reverse s) child) × (child < length doers)
-block_child s places doers task d i child may at lt is =
+pub block_child : (s : List Event) (places : Placed) (tracks : List Track) (task : ℕ) (d : Track) (i child : ℕ) → MaySync s places tracks task
+    → slice_get tracks task ≡ Some d → i < length d.block.items → child ≡ get_or d.block.items i 0
+    → IsSome (last_of (reverse s) child) × (child < length tracks)
+block_child s places tracks task d i child may at lt is =
     let of = may.of.tasks.each task d at in
     let ended = subst (λ ts. AllEnded (reverse s) ts) (sym of.block_is) may.ended in
     let some = subst (λ c. IsSome (last_of (reverse s) c)) (sym is) (child_ended (reverse s) d.block.items i ended lt) in
     let there = last_there (reverse s) may.of.sound child some in
     (some, omega (arith, there, may.of.tasks.count))
 
-pub block_at : (s : List Event) (places : Placed) (doers : List Doer) (task : ℕ) (d : Doer) (i child : ℕ) → MaySync s places doers task
-    → slice_get doers task ≡ Some d → slice_get d.block.items i ≡ Some child
-    → IsSome (last_of (reverse s) child) × (child < length doers)
-block_at s places doers task d i child may at is =
-    block_child s places doers task d i child may at (slice_get_within d.block.items i child is) (sym (get_or_from_slice_get d.block.items i child 0 is))
+pub block_at : (s : List Event) (places : Placed) (tracks : List Track) (task : ℕ) (d : Track) (i child : ℕ) → MaySync s places tracks task
+    → slice_get tracks task ≡ Some d → slice_get d.block.items i ≡ Some child
+    → IsSome (last_of (reverse s) child) × (child < length tracks)
+block_at s places tracks task d i child may at is =
+    block_child s places tracks task d i child may at (slice_get_within d.block.items i child is) (sym (get_or_from_slice_get d.block.items i child 0 is))
 
-pub child_last : (s : List Event) (places : Placed) (doers : List Doer) (child : ℕ) (o : Doer) → AreOf s places doers → slice_get doers child ≡ Some o
+pub child_last : (s : List Event) (places : Placed) (tracks : List Track) (child : ℕ) (o : Track) → AreOf s places tracks → slice_get tracks child ≡ Some o
     → IsSome (last_of (reverse s) child) → last_of (reverse s) child ≡ Some o.at.number
-child_last s places doers child o of ot some = ended_some (last_of (reverse s) child) some (of.tasks.each child o ot).last_is
+child_last s places tracks child o of ot some = ended_some (last_of (reverse s) child) some (of.tasks.each child o ot).last_is
   where
     ended_some : (q : Option ℕ) → IsSome q → q ≡ last_if o.ended o.at.number → q ≡ Some o.at.number
     ended_some None h is = absurd (true≢false (sym h))
     ended_some (Some x) h is = is ∙ ended_last o.ended o.at.number x (sym is)
 
-pub doer_in : (s : List Event) (places : Placed) (doers : List Doer) (t : ℕ) (d : Doer) → AreOf s places doers → slice_get doers t ≡ Some d
+pub track_in : (s : List Event) (places : Placed) (tracks : List Track) (t : ℕ) (d : Track) → AreOf s places tracks → slice_get tracks t ≡ Some d
     → IsIn d.at.number places.english places.hebrew
-doer_in s places doers t d of at =
-    let k = doer_known s places.english places.hebrew t d of.sound of.orders (of.tasks.each t d at) in
+track_in s places tracks t d of at =
+    let k = track_known s places.english places.hebrew t d of.sound of.orders (of.tasks.each t d at) in
     let n = strands_in s places.english places.hebrew of.sound of.orders in
     record { first = k.0; second = omega (arith, k.0, n.0, n.1) }
 

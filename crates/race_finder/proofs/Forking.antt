@@ -11,8 +11,8 @@ use Rattle.strand_laws.proofs.Links.{ev, if_off, if_self}
 use Rattle.strand_tree.specs.declared.strand.Strand.{Strand}
 use Rattle.strand_tree.specs.Placing.{IsStrandOf}
 use Rattle.reach_table.specs.Telling.{HasTable}
-use Rattle.race_finder.specs.declared.doer.Doer.{Doer}
-use Rattle.race_finder.specs.Finding.{last_if, IsDoerOf}
+use Rattle.race_finder.specs.declared.track.Track.{Track}
+use Rattle.race_finder.specs.Finding.{last_if, IsTrackOf}
 use Rattle.race_finder.proofs.Next.{turned}
 use Rattle.race_finder.proofs.Structural.{followed, acting_there, acting_runs, new_block, new_last}
 
@@ -20,7 +20,7 @@ if_none : (b : Bool) (o r : Option ℕ) → (if b && false then o else r) ≡ r
 if_none true o r = refl
 if_none false o r = refl
 
-module _ (s : List Event) (task code child kid cont : ℕ) (args : List Value) (st : ℕ) (d : Doer) (of : IsDoerOf s task d) where
+module _ (s : List Event) (task code child kid cont : ℕ) (args : List Value) (st : ℕ) (d : Track) (of : IsTrackOf s task d) where
   none_now : (b : Bool) (m n : ℕ) → b ≡ false → last_if b m ≡ last_if b n
   none_now true m n is = cc
   none_now false m n is = refl
@@ -37,7 +37,7 @@ module _ (s : List Event) (task code child kid cont : ℕ) (args : List Value) (
 
     pub spawner : (at : Strand) (block : Listed ℕ) → at.number ≡ cont → IsStrandOf (s ++ e ∷ []) at → HasTable (s ++ e ∷ []) cont d.reach
         → block.items ≡ d.block.items ++ child ∷ []
-        → IsDoerOf (s ++ e ∷ []) task (record { at = at; reach = d.reach; block = block; ended = d.ended })
+        → IsTrackOf (s ++ e ∷ []) task (record { at = at; reach = d.reach; block = block; ended = d.ended })
     spawner at block at_is there table block_is =
         let past = reverse s in
         record {
@@ -52,7 +52,7 @@ module _ (s : List Event) (task code child kid cont : ℕ) (args : List Value) (
 
     pub spawned : (at : Strand) (table : List Strand) (block : Listed ℕ) → at.number ≡ kid → IsStrandOf (s ++ e ∷ []) at → HasTable (s ++ e ∷ []) kid table
         → block.items ≡ []
-        → IsDoerOf (s ++ e ∷ []) child (record { at = at; reach = table; block = block; ended = false })
+        → IsTrackOf (s ++ e ∷ []) child (record { at = at; reach = table; block = block; ended = false })
     spawned at table block at_is there table_is block_is =
         let past = reverse s in
         record {
@@ -75,7 +75,7 @@ module _ (s : List Event) (task code child kid cont : ℕ) (args : List Value) (
     apart' q = absurd (let lt = acting_there s e' sound in omega (arith, lt, q, child_is'))
 
     pub creator : (at : Strand) → at.number ≡ cont → IsStrandOf (s ++ e' ∷ []) at → HasTable (s ++ e' ∷ []) cont d.reach
-        → IsDoerOf (s ++ e' ∷ []) task (record { at = at; reach = d.reach; block = d.block; ended = d.ended })
+        → IsTrackOf (s ++ e' ∷ []) task (record { at = at; reach = d.reach; block = d.block; ended = d.ended })
     creator at at_is there table =
         let past = reverse s in
         record {
@@ -89,7 +89,7 @@ module _ (s : List Event) (task code child kid cont : ℕ) (args : List Value) (
 
     pub created : (at : Strand) (table : List Strand) (block : Listed ℕ) → at.number ≡ kid → IsStrandOf (s ++ e' ∷ []) at → HasTable (s ++ e' ∷ []) kid table
         → block.items ≡ []
-        → IsDoerOf (s ++ e' ∷ []) child (record { at = at; reach = table; block = block; ended = false })
+        → IsTrackOf (s ++ e' ∷ []) child (record { at = at; reach = table; block = block; ended = false })
     created at table block at_is there table_is block_is =
         let past = reverse s in
         record {

@@ -11,8 +11,8 @@ use Rattle.strand_laws.proofs.Links.{ev, if_self}
 use Rattle.strand_tree.specs.declared.strand.Strand.{Strand}
 use Rattle.strand_tree.specs.Placing.{IsStrandOf}
 use Rattle.reach_table.specs.Telling.{HasTable}
-use Rattle.race_finder.specs.declared.doer.Doer.{Doer}
-use Rattle.race_finder.specs.Finding.{last_if, IsDoerOf}
+use Rattle.race_finder.specs.declared.track.Track.{Track}
+use Rattle.race_finder.specs.Finding.{last_if, IsTrackOf}
 use Rattle.race_finder.proofs.Next.{turned}
 use Rattle.race_finder.proofs.Structural.{acting_runs}
 
@@ -24,13 +24,13 @@ none_now : (b : Bool) (m n : ℕ) → b ≡ false → last_if b m ≡ last_if b 
 none_now true m n is = cc
 none_now false m n is = refl
 
-module _ (s : List Event) (task st strand : ℕ) (d : Doer) (of : IsDoerOf s task d) (at : Strand) (at_is : at.number ≡ strand) (table : List Strand) where
+module _ (s : List Event) (task st strand : ℕ) (d : Track) (of : IsTrackOf s task d) (at : Strand) (at_is : at.number ≡ strand) (table : List Strand) where
   module _ (future : ℕ) (value : Value) (sound : IsSound (s ++ ev task st (Gets future value strand) ∷ [])) where
     abbrev e : Event
     e = ev task st (Gets future value strand)
 
     pub getter : IsStrandOf (s ++ e ∷ []) at → HasTable (s ++ e ∷ []) strand table
-        → IsDoerOf (s ++ e ∷ []) task (record { at = at; reach = table; block = d.block; ended = d.ended })
+        → IsTrackOf (s ++ e ∷ []) task (record { at = at; reach = table; block = d.block; ended = d.ended })
     getter there table_is =
         let past = reverse s in
         record {
@@ -47,7 +47,7 @@ module _ (s : List Event) (task st strand : ℕ) (d : Doer) (of : IsDoerOf s tas
     e' = ev task st (Syncs strand)
 
     pub syncer : (block : Listed ℕ) → block.items ≡ [] → IsStrandOf (s ++ e' ∷ []) at → HasTable (s ++ e' ∷ []) strand table
-        → IsDoerOf (s ++ e' ∷ []) task (record { at = at; reach = table; block = block; ended = d.ended })
+        → IsTrackOf (s ++ e' ∷ []) task (record { at = at; reach = table; block = block; ended = d.ended })
     syncer block empty there table_is =
         let past = reverse s in
         record {

@@ -21,8 +21,8 @@ use Rattle.access_shards.specs.Logged.{Logged, IsLogOf}
 use Rattle.access_shards.specs.Histories.{touches_of, IsInStep}
 use Rattle.access_shards.proofs.Growing.{strand_stays, log_stays}
 use Rattle.access_shards.proofs.Histories.{accesses_are_late}
-use Rattle.race_finder.specs.declared.doer.Doer.{Doer}
-use Rattle.race_finder.specs.Finding.{last_if, IsDoerOf, AreDoersOf, AreLogsOf, Knows}
+use Rattle.race_finder.specs.declared.track.Track.{Track}
+use Rattle.race_finder.specs.Finding.{last_if, IsTrackOf, AreTracksOf, AreLogsOf, Knows}
 use Rattle.race_finder.proofs.Lists.{set_get, push_get}
 use Rattle.race_finder.proofs.Next.{turned, untouched, structure_more, kind_none}
 
@@ -50,8 +50,8 @@ module _ (s : List Event) (e : Event) (sound : IsSound (s ++ e ∷ [])) where
   pub acting_there : e.task < next_task (reverse s)
   acting_there = ((linked (reverse s) followed.0).cur e.task e.strand followed.1.stands).0
 
-  pub doer_stays : (t : ℕ) (d : Doer) → IsDoerOf s t d → t ≢ e.task → t < next_task (reverse s) → IsDoerOf (s ++ e ∷ []) t d
-  doer_stays t d of ne lt =
+  pub track_stays : (t : ℕ) (d : Track) → IsTrackOf s t d → t ≢ e.task → t < next_task (reverse s) → IsTrackOf (s ++ e ∷ []) t d
+  track_stays t d of ne lt =
       record {
         stands = ap (λ l. current l t) (turned s e) ∙ current_stays (reverse s) e.task e.action t (current (reverse s) t) followed.1.acts ne lt ∙ of.stands;
         strand = strand_stays s (e ∷ []) sound d.at of.strand;
@@ -60,46 +60,46 @@ module _ (s : List Event) (e : Event) (sound : IsSound (s ++ e ∷ [])) where
         last_is = ap (λ l. last_of l t) (turned s e) ∙ last_stays (reverse s) e t ne ∙ of.last_is;
       }
 
-  pub doers_acted : (doers : List Doer) (new : Doer) → tasks_by e.action ≡ 0 → AreDoersOf s doers → IsDoerOf (s ++ e ∷ []) e.task new
-      → AreDoersOf (s ++ e ∷ []) (set doers e.task new)
-  doers_acted doers new none a of =
-      let n = length-set doers e.task new in
+  pub tracks_acted : (tracks : List Track) (new : Track) → tasks_by e.action ≡ 0 → AreTracksOf s tracks → IsTrackOf (s ++ e ∷ []) e.task new
+      → AreTracksOf (s ++ e ∷ []) (set tracks e.task new)
+  tracks_acted tracks new none a of =
+      let n = length-set tracks e.task new in
       let more : next_task (reverse (s ++ e ∷ [])) ≡ next_task (reverse s) + tasks_by e.action = ap next_task (turned s e) in
       record {
         count = omega (arith, n, more, none, a.count);
-        each = λ t d at. elim (set_get doers e.task t new d at) [
-          | inl q ↦ subst (IsDoerOf (s ++ e ∷ []) t) q.1 (subst (λ k. IsDoerOf (s ++ e ∷ []) k new) (sym q.0) of)
-          | inr q ↦ doer_stays t d (a.each t d q.1) q.0 (let lt = slice_get_within doers t d q.1 in omega (arith, lt, a.count))
+        each = λ t d at. elim (set_get tracks e.task t new d at) [
+          | inl q ↦ subst (IsTrackOf (s ++ e ∷ []) t) q.1 (subst (λ k. IsTrackOf (s ++ e ∷ []) k new) (sym q.0) of)
+          | inr q ↦ track_stays t d (a.each t d q.1) q.0 (let lt = slice_get_within tracks t d q.1 in omega (arith, lt, a.count))
         ];
       }
 
-  pub doers_forked : (doers : List Doer) (new kid : Doer) → tasks_by e.action ≡ 1 → AreDoersOf s doers → IsDoerOf (s ++ e ∷ []) e.task new
-      → IsDoerOf (s ++ e ∷ []) (next_task (reverse s)) kid
-      → AreDoersOf (s ++ e ∷ []) (set doers e.task new ++ kid ∷ [])
-  doers_forked doers new kid one a of kid_of =
-      let n = length-set doers e.task new in
-      let m = length-append (set doers e.task new) (kid ∷ []) in
+  pub tracks_forked : (tracks : List Track) (new kid : Track) → tasks_by e.action ≡ 1 → AreTracksOf s tracks → IsTrackOf (s ++ e ∷ []) e.task new
+      → IsTrackOf (s ++ e ∷ []) (next_task (reverse s)) kid
+      → AreTracksOf (s ++ e ∷ []) (set tracks e.task new ++ kid ∷ [])
+  tracks_forked tracks new kid one a of kid_of =
+      let n = length-set tracks e.task new in
+      let m = length-append (set tracks e.task new) (kid ∷ []) in
       let more : next_task (reverse (s ++ e ∷ [])) ≡ next_task (reverse s) + tasks_by e.action = ap next_task (turned s e) in
-      let last : length (set doers e.task new) ≡ next_task (reverse s) = n ∙ a.count in
+      let last : length (set tracks e.task new) ≡ next_task (reverse s) = n ∙ a.count in
       record {
         count = omega (arith, m, last, more, one);
-        each = λ t d at. elim (push_get (set doers e.task new) kid t d at) [
-          | inl q ↦ subst (IsDoerOf (s ++ e ∷ []) t) q.1 (subst (λ k. IsDoerOf (s ++ e ∷ []) k kid) (sym (q.0 ∙ last)) kid_of)
-          | inr r ↦ elim (set_get doers e.task t new d r.1) [
-            | inl q ↦ subst (IsDoerOf (s ++ e ∷ []) t) q.1 (subst (λ k. IsDoerOf (s ++ e ∷ []) k new) (sym q.0) of)
-            | inr q ↦ doer_stays t d (a.each t d q.1) q.0 (omega (arith, r.0, last))
+        each = λ t d at. elim (push_get (set tracks e.task new) kid t d at) [
+          | inl q ↦ subst (IsTrackOf (s ++ e ∷ []) t) q.1 (subst (λ k. IsTrackOf (s ++ e ∷ []) k kid) (sym (q.0 ∙ last)) kid_of)
+          | inr r ↦ elim (set_get tracks e.task t new d r.1) [
+            | inl q ↦ subst (IsTrackOf (s ++ e ∷ []) t) q.1 (subst (λ k. IsTrackOf (s ++ e ∷ []) k new) (sym q.0) of)
+            | inr q ↦ track_stays t d (a.each t d q.1) q.0 (omega (arith, r.0, last))
           ]
         ];
       }
 
   -- the acting task stands where its strand says, and has not ended
-  pub acting_at : (d : Doer) → IsDoerOf s e.task d → d.at.number ≡ e.strand
+  pub acting_at : (d : Track) → IsTrackOf s e.task d → d.at.number ≡ e.strand
   acting_at d of = some_same (sym of.stands ∙ followed.1.stands)
     where
       some_same : {a b : ℕ} → Some a ≡ Some b → a ≡ b
       some_same {a} {b} h = cc
 
-  pub acting_runs : (d : Doer) → IsDoerOf s e.task d → d.ended ≡ false
+  pub acting_runs : (d : Track) → IsTrackOf s e.task d → d.ended ≡ false
   acting_runs d of = none_if d.ended d.at.number (sym of.last_is ∙ followed.1.running)
     where
       none_if : (b : Bool) (n : ℕ) → last_if b n ≡ None → b ≡ false
@@ -130,29 +130,29 @@ module _ (h : List Event) (e : Event) (steps : IsInStep (h ++ e ∷ [])) (plain 
       }
 
   -- all that is known with one more structural event
-  pub knows_structural : (english hebrew english' hebrew' : List ℕ) (doers doers' : List Doer) (logs : List Logged) (count count' : ℕ)
-      → Knows h english hebrew doers logs count
-      → AreOrders (structure_of h ++ e ∷ []) english' hebrew' → AreDoersOf (structure_of h ++ e ∷ []) doers' → count' ≡ count + 1
-      → Knows (h ++ e ∷ []) english' hebrew' doers' logs count'
-  knows_structural english hebrew english' hebrew' doers doers' logs count count' k orders tasks counted =
+  pub knows_structural : (english hebrew english' hebrew' : List ℕ) (tracks tracks' : List Track) (logs : List Logged) (count count' : ℕ)
+      → Knows h english hebrew tracks logs count
+      → AreOrders (structure_of h ++ e ∷ []) english' hebrew' → AreTracksOf (structure_of h ++ e ∷ []) tracks' → count' ≡ count + 1
+      → Knows (h ++ e ∷ []) english' hebrew' tracks' logs count'
+  knows_structural english hebrew english' hebrew' tracks tracks' logs count count' k orders tasks counted =
       record {
         steps = steps;
         orders = subst (λ s. AreOrders s english' hebrew') (sym (structure_more h e plain)) orders;
-        tasks = subst (λ s. AreDoersOf s doers') (sym (structure_more h e plain)) tasks;
+        tasks = subst (λ s. AreTracksOf s tracks') (sym (structure_more h e plain)) tasks;
         cells = logs_more logs k.steps k.cells;
         few = k.few;
         length_is = (let n = length-append h (e ∷ []) in omega (arith, n, k.length_is, counted));
       }
 
-abbrev pub ended : Doer → Doer
+abbrev pub ended : Track → Track
 ended d = record { at = d.at; reach = d.reach; block = d.block; ended = true }
 
 module _ (h : List Event) (t st : ℕ) (v : Value) (steps : IsInStep (h ++ ev t st (Ends v) ∷ [])) where
   abbrev e : Event
   e = ev t st (Ends v)
 
-  end_doer : (d : Doer) → IsDoerOf (structure_of h) t d → IsDoerOf (structure_of h ++ e ∷ []) t (ended d)
-  end_doer d of =
+  end_track : (d : Track) → IsTrackOf (structure_of h) t d → IsTrackOf (structure_of h ++ e ∷ []) t (ended d)
+  end_track d of =
       let s = structure_of h in
       let sound = sound_more h e steps refl in
       let past = reverse s in
@@ -165,23 +165,23 @@ module _ (h : List Event) (t st : ℕ) (v : Value) (steps : IsInStep (h ++ ev t 
             (λ _. ap Some (sym (acting_at s e sound d of))) (λ ne. absurd (ne refl));
       }
 
-  pub knows_end : (english hebrew : List ℕ) (doers : List Doer) (logs : List Logged) (count count' : ℕ) (d : Doer) → Knows h english hebrew doers logs count
-      → slice_get doers t ≡ Some d → count' ≡ count + 1
-      → Knows (h ++ e ∷ []) english hebrew (set doers t (ended d)) logs count'
-  knows_end english hebrew doers logs count count' d k at counted =
+  pub knows_end : (english hebrew : List ℕ) (tracks : List Track) (logs : List Logged) (count count' : ℕ) (d : Track) → Knows h english hebrew tracks logs count
+      → slice_get tracks t ≡ Some d → count' ≡ count + 1
+      → Knows (h ++ e ∷ []) english hebrew (set tracks t (ended d)) logs count'
+  knows_end english hebrew tracks logs count count' d k at counted =
       let s = structure_of h in
-      knows_structural h e steps refl english hebrew english hebrew doers (set doers t (ended d)) logs count count' k
+      knows_structural h e steps refl english hebrew english hebrew tracks (set tracks t (ended d)) logs count count' k
       (record { english_is = k.orders.english_is ∙ sym (ap english_past (turned s e)); hebrew_is = k.orders.hebrew_is ∙ sym (ap hebrew_past (turned s e)) })
-      (doers_acted s e (sound_more h e steps refl) doers (ended d) refl k.tasks (end_doer d (k.tasks.each t d at))) counted
+      (tracks_acted s e (sound_more h e steps refl) tracks (ended d) refl k.tasks (end_track d (k.tasks.each t d at))) counted
 
 -- the same of any event by which a task ends
 pub end_taken : (h : List Event) (e : Event) (task : ℕ) (v : Value) → e.task ≡ task → e.action ≡ Ends v → IsInStep (h ++ e ∷ [])
-    → (english hebrew : List ℕ) (doers : List Doer) (logs : List Logged) (count count' : ℕ) (d : Doer) → Knows h english hebrew doers logs count
-    → slice_get doers task ≡ Some d → count' ≡ count + 1
-    → Knows (h ++ e ∷ []) english hebrew (set doers task (ended d)) logs count'
-end_taken h e task v task_is acts steps english hebrew doers logs count count' d k at counted =
+    → (english hebrew : List ℕ) (tracks : List Track) (logs : List Logged) (count count' : ℕ) (d : Track) → Knows h english hebrew tracks logs count
+    → slice_get tracks task ≡ Some d → count' ≡ count + 1
+    → Knows (h ++ e ∷ []) english hebrew (set tracks task (ended d)) logs count'
+end_taken h e task v task_is acts steps english hebrew tracks logs count count' d k at counted =
     let E : Action → Event = λ a. ev e.task e.strand a in
-    subst (λ a. Knows (h ++ E a ∷ []) english hebrew (set doers task (ended d)) logs count') (sym acts)
-    (subst (λ t. Knows (h ++ E (Ends v) ∷ []) english hebrew (set doers t (ended d)) logs count') task_is
-    (knows_end h e.task e.strand v (subst (λ a. IsInStep (h ++ E a ∷ [])) acts steps) english hebrew doers logs count count' d k
-    (subst (λ t. slice_get doers t ≡ Some d) (sym task_is) at) counted))
+    subst (λ a. Knows (h ++ E a ∷ []) english hebrew (set tracks task (ended d)) logs count') (sym acts)
+    (subst (λ t. Knows (h ++ E (Ends v) ∷ []) english hebrew (set tracks t (ended d)) logs count') task_is
+    (knows_end h e.task e.strand v (subst (λ a. IsInStep (h ++ E a ∷ [])) acts steps) english hebrew tracks logs count count' d k
+    (subst (λ t. slice_get tracks t ≡ Some d) (sym task_is) at) counted))

@@ -17,17 +17,17 @@ use Rattle.reach_table.specs.Telling.{HasTable}
 use Rattle.reach_table.proofs.Events.{after_sync}
 use Rattle.access_shards.specs.Logged.{Logged}
 use Rattle.access_shards.specs.Histories.{IsInStep}
-use Rattle.race_finder.specs.declared.doer.Doer.{Doer}
+use Rattle.race_finder.specs.declared.track.Track.{Track}
 use Rattle.race_finder.specs.declared.forks.Fork.{Fork}
 use Rattle.race_finder.specs.declared.forks.Fork.TheVariants as fork
 use Rattle.race_finder.specs.Places.{Placed}
-use Rattle.race_finder.specs.Finding.{last_if, IsDoerOf, AreDoersOf, Knows, IsSpawnBy, IsCreateBy, IsForkBy, IsGetBy, IsSyncBy}
+use Rattle.race_finder.specs.Finding.{last_if, IsTrackOf, AreTracksOf, Knows, IsSpawnBy, IsCreateBy, IsForkBy, IsGetBy, IsSyncBy}
 use Rattle.race_finder.specs.Acting.{AreForked, SpawnsOne, CreatesOne, ForksOne, AreJoined, GetsOne, SyncsOne, AreOf, MaySync, TableAfterGet, TableOfBlock}
-use Rattle.race_finder.specs.Acting.{IsSameDoer}
+use Rattle.race_finder.specs.Acting.{IsSameTrack}
 use Rattle.race_finder.proofs.Lists.{set_get}
 use Rattle.access_shards.proofs.Histories.{by_structure}
 use Rattle.race_finder.proofs.Accesses.{strands_in}
-use Rattle.race_finder.proofs.Structural.{followed, acting_at, doers_forked, doers_acted, sound_more, knows_structural}
+use Rattle.race_finder.proofs.Structural.{followed, acting_at, tracks_forked, tracks_acted, sound_more, knows_structural}
 
 -- a history has at most two strands an event, and one more
 few_by : (a : Action) → strands_by a ≤ 2
@@ -47,9 +47,9 @@ few_strands : (past : List Event) → next_strand (filter by_structure past) ≤
 few_strands [] = omega arith
 few_strands (e ∷ past) = let k = few_next (by_structure e) e (filter by_structure past) (length past) (few_strands past) in omega (arith, k)
 
-pub places_few : (h : List Event) (english hebrew : List ℕ) (doers : List Doer) (logs : List Logged) (count : ℕ) → Knows h english hebrew doers logs count
+pub places_few : (h : List Event) (english hebrew : List ℕ) (tracks : List Track) (logs : List Logged) (count : ℕ) → Knows h english hebrew tracks logs count
     → (length english ≤ 1 + 2 * length h) × (length english ≡ length hebrew)
-places_few h english hebrew doers logs count k =
+places_few h english hebrew tracks logs count k =
     let n = strands_in (structure_of h) english hebrew k.steps.sound k.orders in
     let few = subst (λ l. next_strand l ≤ 1 + 2 * length (reverse h)) (sym (reverse_filter by_structure h)) (few_strands (reverse h)) in
     let len = length-reverse h in
@@ -59,13 +59,13 @@ ev_same : (e : Event) (t st : ℕ) (a : Action) → e.task ≡ t → e.strand �
 ev_same e t st a p q r = ap (λ x. ev x e.strand e.action) p ∙ ap (λ x. ev t x e.action) q ∙ ap (λ x. ev t st x) r
 
 -- a task of which the same is remembered
-pub same_known : (h : List Event) (english hebrew english' hebrew' : List ℕ) (doers : List Doer) (logs : List Logged) (count task : ℕ) (d d' : Doer)
-    → Knows h english hebrew doers logs count → slice_get doers task ≡ Some d
-    → IsSameDoer d d' → english' ≡ english → hebrew' ≡ hebrew → Knows h english' hebrew' (set doers task d') logs count
-same_known h english hebrew english' hebrew' doers logs count task d d' k at same en he =
+pub same_known : (h : List Event) (english hebrew english' hebrew' : List ℕ) (tracks : List Track) (logs : List Logged) (count task : ℕ) (d d' : Track)
+    → Knows h english hebrew tracks logs count → slice_get tracks task ≡ Some d
+    → IsSameTrack d d' → english' ≡ english → hebrew' ≡ hebrew → Knows h english' hebrew' (set tracks task d') logs count
+same_known h english hebrew english' hebrew' tracks logs count task d d' k at same en he =
     let s = structure_of h in
     let of = k.tasks.each task d at in
-    let of' : IsDoerOf s task d' = record {
+    let of' : IsTrackOf s task d' = record {
       stands = of.stands ∙ ap (λ (v : Strand). Some v.number) (sym same.at_is);
       strand = subst (λ v. IsStrandOf s v) (sym same.at_is) of.strand;
       table = subst (λ (v : Strand). HasTable s v.number d'.reach) (sym same.at_is) (subst (λ t. HasTable s d.at.number t) (sym same.table_is) of.table);
@@ -76,9 +76,9 @@ same_known h english hebrew english' hebrew' doers logs count task d d' k at sam
       steps = k.steps;
       orders = record { english_is = en ∙ k.orders.english_is; hebrew_is = he ∙ k.orders.hebrew_is };
       tasks = record {
-        count = length-set doers task d' ∙ k.tasks.count;
-        each = λ t x xt. elim (set_get doers task t d' x xt) [
-          | inl q ↦ subst (IsDoerOf s t) q.1 (subst (λ n. IsDoerOf s n d') (sym q.0) of')
+        count = length-set tracks task d' ∙ k.tasks.count;
+        each = λ t x xt. elim (set_get tracks task t d' x xt) [
+          | inl q ↦ subst (IsTrackOf s t) q.1 (subst (λ n. IsTrackOf s n d') (sym q.0) of')
           | inr q ↦ k.tasks.each t x q.1
         ];
       };
@@ -92,8 +92,8 @@ pub fork_task : (f : Fork) (task child : ℕ) (e : Event) → IsForkBy f task ch
 fork_task fork.Spawn task child e p = p.task_is
 fork_task fork.Create task child e p = p.task_is
 
-module _ (h : List Event) (e : Event) (steps : IsInStep (h ++ e ∷ [])) (english hebrew : List ℕ) (doers : List Doer) (logs : List Logged) (count : ℕ)
-    (k : Knows h english hebrew doers logs count) where
+module _ (h : List Event) (e : Event) (steps : IsInStep (h ++ e ∷ [])) (english hebrew : List ℕ) (tracks : List Track) (logs : List Logged) (count : ℕ)
+    (k : Knows h english hebrew tracks logs count) where
   abbrev s : List Event
   s = structure_of h
 
@@ -107,40 +107,40 @@ module _ (h : List Event) (e : Event) (steps : IsInStep (h ++ e ∷ [])) (englis
     may : MayAct (reverse s) e.task a
     may = subst (MayAct (reverse s) e.task) acts (followed s e sound).1.acts
 
-    forked : (task child : ℕ) (places' : Placed) (d' kid : Doer) (count' : ℕ) → e.task ≡ task → tasks_by a ≡ 1 → child ≡ next_task (reverse s)
+    forked : (task child : ℕ) (places' : Placed) (d' kid : Track) (count' : ℕ) → e.task ≡ task → tasks_by a ≡ 1 → child ≡ next_task (reverse s)
         → AreForked (s ++ e ∷ []) places' task child d' kid → count' ≡ count + 1
-        → Knows (h ++ e ∷ []) places'.english places'.hebrew (set doers task d' ++ kid ∷ []) logs count'
+        → Knows (h ++ e ∷ []) places'.english places'.hebrew (set tracks task d' ++ kid ∷ []) logs count'
     forked task child places' d' kid count' task_is one child_is f counted =
-        knows_structural h e steps plain_e english hebrew places'.english places'.hebrew doers (set doers task d' ++ kid ∷ []) logs count count' k f.orders
-        (subst (λ t. AreDoersOf (s ++ e ∷ []) (set doers t d' ++ kid ∷ [])) task_is
-        (doers_forked s e sound doers d' kid (ap tasks_by acts ∙ one) k.tasks (subst (λ t. IsDoerOf (s ++ e ∷ []) t d') (sym task_is) f.acting)
-        (subst (λ t. IsDoerOf (s ++ e ∷ []) t kid) child_is f.made)))
+        knows_structural h e steps plain_e english hebrew places'.english places'.hebrew tracks (set tracks task d' ++ kid ∷ []) logs count count' k f.orders
+        (subst (λ t. AreTracksOf (s ++ e ∷ []) (set tracks t d' ++ kid ∷ [])) task_is
+        (tracks_forked s e sound tracks d' kid (ap tasks_by acts ∙ one) k.tasks (subst (λ t. IsTrackOf (s ++ e ∷ []) t d') (sym task_is) f.acting)
+        (subst (λ t. IsTrackOf (s ++ e ∷ []) t kid) child_is f.made)))
         counted
 
-    joined : (task : ℕ) (places' : Placed) (d' : Doer) (count' : ℕ) → e.task ≡ task → tasks_by a ≡ 0 → AreJoined (s ++ e ∷ []) places' task d'
+    joined : (task : ℕ) (places' : Placed) (d' : Track) (count' : ℕ) → e.task ≡ task → tasks_by a ≡ 0 → AreJoined (s ++ e ∷ []) places' task d'
         → count' ≡ count + 1
-        → Knows (h ++ e ∷ []) places'.english places'.hebrew (set doers task d') logs count'
+        → Knows (h ++ e ∷ []) places'.english places'.hebrew (set tracks task d') logs count'
     joined task places' d' count' task_is none j counted =
-        knows_structural h e steps plain_e english hebrew places'.english places'.hebrew doers (set doers task d') logs count count' k j.orders
-        (subst (λ t. AreDoersOf (s ++ e ∷ []) (set doers t d')) task_is
-        (doers_acted s e sound doers d' (ap tasks_by acts ∙ none) k.tasks (subst (λ t. IsDoerOf (s ++ e ∷ []) t d') (sym task_is) j.acting)))
+        knows_structural h e steps plain_e english hebrew places'.english places'.hebrew tracks (set tracks task d') logs count count' k j.orders
+        (subst (λ t. AreTracksOf (s ++ e ∷ []) (set tracks t d')) task_is
+        (tracks_acted s e sound tracks d' (ap tasks_by acts ∙ none) k.tasks (subst (λ t. IsTrackOf (s ++ e ∷ []) t d') (sym task_is) j.acting)))
         counted
 
     -- the acting task's strand, and the event with the numbers that were given
-    here : (task : ℕ) (d : Doer) → e.task ≡ task → slice_get doers task ≡ Some d → (e.strand ≡ d.at.number) × IsDoerOf s task d
+    here : (task : ℕ) (d : Track) → e.task ≡ task → slice_get tracks task ≡ Some d → (e.strand ≡ d.at.number) × IsTrackOf s task d
     here task d task_is at =
         let of = k.tasks.each task d at in
-        (sym (acting_at s e sound d (subst (λ t. IsDoerOf s t d) (sym task_is) of)), of)
+        (sym (acting_at s e sound d (subst (λ t. IsTrackOf s t d) (sym task_is) of)), of)
 
   first_new : length english ≡ next_strand (reverse s)
   first_new = (strands_in s english hebrew k.steps.sound k.orders).0
 
-  pub spawn_taken : (task child : ℕ) (places places' : Placed) (d d' kid : Doer) (doers' : List Doer) (count' : ℕ) → IsSpawnBy task child e
-      → places.english ≡ english → places.hebrew ≡ hebrew → slice_get doers task ≡ Some d
-      → AreNext (length places.english) kid.at.number d'.at.number → SpawnsOne places d child places' d' kid → doers' ≡ set doers task d' ++ kid ∷ []
+  pub spawn_taken : (task child : ℕ) (places places' : Placed) (d d' kid : Track) (tracks' : List Track) (count' : ℕ) → IsSpawnBy task child e
+      → places.english ≡ english → places.hebrew ≡ hebrew → slice_get tracks task ≡ Some d
+      → AreNext (length places.english) kid.at.number d'.at.number → SpawnsOne places d child places' d' kid → tracks' ≡ set tracks task d' ++ kid ∷ []
       → count' ≡ count + 1
-      → Knows (h ++ e ∷ []) places'.english places'.hebrew doers' logs count'
-  spawn_taken task child places places' d d' kid doers' count' p en he at numbers one doers_is counted =
+      → Knows (h ++ e ∷ []) places'.english places'.hebrew tracks' logs count'
+  spawn_taken task child places places' d d' kid tracks' count' p en he at numbers one tracks_is counted =
       let code = p.acts.0 in
       let args = p.acts.3 in
       let a = Spawns code child p.acts.1 p.acts.2 args in
@@ -157,16 +157,16 @@ module _ (h : List Event) (e : Event) (steps : IsInStep (h ++ e ∷ [])) (englis
         english_is = en ∙ k.orders.english_is;
         hebrew_is = he ∙ k.orders.hebrew_is;
       }) at_is.1 in
-      subst (λ ds. Knows (h ++ e ∷ []) places'.english places'.hebrew ds logs count') (sym doers_is)
+      subst (λ ds. Knows (h ++ e ∷ []) places'.english places'.hebrew ds logs count') (sym tracks_is)
       (forked a p.acts.4 refl task child places' d' kid count' p.task_is refl m.0
       (subst (λ x. AreForked (s ++ x ∷ []) places' task child d' kid) (sym same) f) counted)
 
-  pub create_taken : (task child : ℕ) (places places' : Placed) (d d' kid : Doer) (doers' : List Doer) (count' : ℕ) → IsCreateBy task child e
-      → places.english ≡ english → places.hebrew ≡ hebrew → slice_get doers task ≡ Some d
-      → AreNext (length places.english) kid.at.number d'.at.number → CreatesOne places d child places' d' kid → doers' ≡ set doers task d' ++ kid ∷ []
+  pub create_taken : (task child : ℕ) (places places' : Placed) (d d' kid : Track) (tracks' : List Track) (count' : ℕ) → IsCreateBy task child e
+      → places.english ≡ english → places.hebrew ≡ hebrew → slice_get tracks task ≡ Some d
+      → AreNext (length places.english) kid.at.number d'.at.number → CreatesOne places d child places' d' kid → tracks' ≡ set tracks task d' ++ kid ∷ []
       → count' ≡ count + 1
-      → Knows (h ++ e ∷ []) places'.english places'.hebrew doers' logs count'
-  create_taken task child places places' d d' kid doers' count' p en he at numbers one doers_is counted =
+      → Knows (h ++ e ∷ []) places'.english places'.hebrew tracks' logs count'
+  create_taken task child places places' d d' kid tracks' count' p en he at numbers one tracks_is counted =
       let code = p.acts.0 in
       let args = p.acts.3 in
       let a = Creates code child p.acts.1 p.acts.2 args in
@@ -183,19 +183,19 @@ module _ (h : List Event) (e : Event) (steps : IsInStep (h ++ e ∷ [])) (englis
         english_is = en ∙ k.orders.english_is;
         hebrew_is = he ∙ k.orders.hebrew_is;
       }) at_is.1 in
-      subst (λ ds. Knows (h ++ e ∷ []) places'.english places'.hebrew ds logs count') (sym doers_is)
+      subst (λ ds. Knows (h ++ e ∷ []) places'.english places'.hebrew ds logs count') (sym tracks_is)
       (forked a p.acts.4 refl task child places' d' kid count' p.task_is refl m.0
       (subst (λ x. AreForked (s ++ x ∷ []) places' task child d' kid) (sym same) f) counted)
 
-  pub fork_taken : (f : Fork) (task child : ℕ) (places places' : Placed) (d d' kid : Doer) (doers' : List Doer) (count' : ℕ) → IsForkBy f task child e
-      → places.english ≡ english → places.hebrew ≡ hebrew → slice_get doers task ≡ Some d
-      → AreNext (length places.english) kid.at.number d'.at.number → ForksOne f places d child places' d' kid → doers' ≡ set doers task d' ++ kid ∷ []
-      → count' ≡ count + 1 → Knows (h ++ e ∷ []) places'.english places'.hebrew doers' logs count'
+  pub fork_taken : (f : Fork) (task child : ℕ) (places places' : Placed) (d d' kid : Track) (tracks' : List Track) (count' : ℕ) → IsForkBy f task child e
+      → places.english ≡ english → places.hebrew ≡ hebrew → slice_get tracks task ≡ Some d
+      → AreNext (length places.english) kid.at.number d'.at.number → ForksOne f places d child places' d' kid → tracks' ≡ set tracks task d' ++ kid ∷ []
+      → count' ≡ count + 1 → Knows (h ++ e ∷ []) places'.english places'.hebrew tracks' logs count'
   fork_taken fork.Spawn = spawn_taken
   fork_taken fork.Create = create_taken
 
   -- what is known of places in which there is room, and of all tasks
-  pub known_of : (places : Placed) → places.english ≡ english → places.hebrew ≡ hebrew → AreOf s places doers
+  pub known_of : (places : Placed) → places.english ≡ english → places.hebrew ≡ hebrew → AreOf s places tracks
   known_of places en he = record {
     sound = k.steps.sound;
     orders = record { english_is = en ∙ k.orders.english_is; hebrew_is = he ∙ k.orders.hebrew_is };
@@ -205,10 +205,10 @@ module _ (h : List Event) (e : Event) (steps : IsInStep (h ++ e ∷ [])) (englis
   pub value_known : (task future : ℕ) (p : IsGetBy task future e) → value_of (reverse s) future ≡ Some p.acts.0
   value_known task future p = (may (Gets future p.acts.0 p.acts.1) p.acts.2 refl).1
 
-  pub get_taken : (task future : ℕ) (places places' : Placed) (d d' : Doer) (table : List Strand) (count' : ℕ) → IsGetBy task future e
-      → places.english ≡ english → places.hebrew ≡ hebrew → slice_get doers task ≡ Some d
-      → d'.at.number ≡ length places.english → TableAfterGet places doers task future table → GetsOne places d table places' d' → count' ≡ count + 1
-      → Knows (h ++ e ∷ []) places'.english places'.hebrew (set doers task d') logs count'
+  pub get_taken : (task future : ℕ) (places places' : Placed) (d d' : Track) (table : List Strand) (count' : ℕ) → IsGetBy task future e
+      → places.english ≡ english → places.hebrew ≡ hebrew → slice_get tracks task ≡ Some d
+      → d'.at.number ≡ length places.english → TableAfterGet places tracks task future table → GetsOne places d table places' d' → count' ≡ count + 1
+      → Knows (h ++ e ∷ []) places'.english places'.hebrew (set tracks task d') logs count'
   get_taken task future places places' d d' table count' p en he at number table_is one counted =
       let value = p.acts.0 in
       let a = Gets future value p.acts.1 in
@@ -224,17 +224,17 @@ module _ (h : List Event) (e : Event) (steps : IsInStep (h ++ e ∷ [])) (englis
       let j = one s task future value sound' of.orders at_is.1 (table_is s value d'.at.number d of at sound') in
       joined a p.acts.2 refl task places' d' count' p.task_is refl (subst (λ x. AreJoined (s ++ x ∷ []) places' task d') (sym same) j) counted
 
-  pub sync_may : (task : ℕ) (places : Placed) → IsSyncBy task e → places.english ≡ english → places.hebrew ≡ hebrew → MaySync s places doers task
+  pub sync_may : (task : ℕ) (places : Placed) → IsSyncBy task e → places.english ≡ english → places.hebrew ≡ hebrew → MaySync s places tracks task
   sync_may task places p en he = record {
     of = known_of places en he;
     ended = subst (λ t. AllEnded (reverse s) (block_of (reverse s) t)) p.task_is (may (Syncs p.acts.0) p.acts.1 refl).1;
   }
 
-  pub sync_taken : (task : ℕ) (places places' : Placed) (d d' : Doer) (table : List Strand) (last : Option Strand) (count' : ℕ) → IsSyncBy task e
-      → places.english ≡ english → places.hebrew ≡ hebrew → slice_get doers task ≡ Some d
-      → d'.at.number ≡ length places.english → TableOfBlock places doers task table → IsLastOfFirst s task last → SyncsOne places d table last places' d'
+  pub sync_taken : (task : ℕ) (places places' : Placed) (d d' : Track) (table : List Strand) (last : Option Strand) (count' : ℕ) → IsSyncBy task e
+      → places.english ≡ english → places.hebrew ≡ hebrew → slice_get tracks task ≡ Some d
+      → d'.at.number ≡ length places.english → TableOfBlock places tracks task table → IsLastOfFirst s task last → SyncsOne places d table last places' d'
       → count' ≡ count + 1
-      → Knows (h ++ e ∷ []) places'.english places'.hebrew (set doers task d') logs count'
+      → Knows (h ++ e ∷ []) places'.english places'.hebrew (set tracks task d') logs count'
   sync_taken task places places' d d' table last count' p en he at number table_is last_is one counted =
       let a = Syncs p.acts.0 in
       let m = may a p.acts.1 refl in

@@ -11,7 +11,7 @@ use Rattle.reach_table.specs.Telling.{HasTable}
 use Rattle.access_shards.specs.Kept.{Kind, reading, writing}
 use Rattle.access_shards.specs.Logged.{Logged, IsLogOf}
 use Rattle.access_shards.specs.Histories.{kind_of, touches_of, IsInStep}
-use Rattle.race_finder.specs.declared.doer.Doer.{Doer}
+use Rattle.race_finder.specs.declared.track.Track.{Track}
 use Rattle.race_finder.specs.declared.finder.Finder.{Finder}
 use Rattle.race_finder.specs.declared.forks.Fork.{Fork}
 use Rattle.race_finder.specs.declared.forks.Fork.TheVariants as fork
@@ -21,7 +21,7 @@ last_if true v = Some v
 last_if false v = None
 
 -- what is remembered of task t after some structural events
-pub record IsDoerOf (s : List Event) (t : ℕ) (d : Doer) : Type 0 where
+pub record IsTrackOf (s : List Event) (t : ℕ) (d : Track) : Type 0 where
   pub stands : current (reverse s) t ≡ Some d.at.number
   pub strand : IsStrandOf s d.at
   pub table : HasTable s d.at.number d.reach
@@ -29,9 +29,9 @@ pub record IsDoerOf (s : List Event) (t : ℕ) (d : Doer) : Type 0 where
   pub last_is : last_of (reverse s) t ≡ last_if d.ended d.at.number
 
 -- the tasks of some structural events, by number
-pub record AreDoersOf (s : List Event) (doers : List Doer) : Type 0 where
-  pub count : length doers ≡ next_task (reverse s)
-  pub each : (t : ℕ) (d : Doer) → slice_get doers t ≡ Some d → IsDoerOf s t d
+pub record AreTracksOf (s : List Event) (tracks : List Track) : Type 0 where
+  pub count : length tracks ≡ next_task (reverse s)
+  pub each : (t : ℕ) (d : Track) → slice_get tracks t ≡ Some d → IsTrackOf s t d
 
 -- the logs of each cell's accesses in a history, by the cell's number; the cells with greater numbers have none
 pub record AreLogsOf (h : List Event) (logs : List Logged) : Type 0 where
@@ -39,17 +39,17 @@ pub record AreLogsOf (h : List Event) (logs : List Logged) : Type 0 where
   pub rest : (c : ℕ) → length logs ≤ c → touches_of c h ≡ []
 
 -- both orders of a history's strands, its tasks, what is kept of its accesses, and its length
-pub record Knows (h : List Event) (english hebrew : List ℕ) (doers : List Doer) (logs : List Logged) (count : ℕ) : Type 0 where
+pub record Knows (h : List Event) (english hebrew : List ℕ) (tracks : List Track) (logs : List Logged) (count : ℕ) : Type 0 where
   pub steps : IsInStep h
   pub orders : AreOrders (structure_of h) english hebrew
-  pub tasks : AreDoersOf (structure_of h) doers
+  pub tasks : AreTracksOf (structure_of h) tracks
   pub cells : AreLogsOf h logs
   pub few : length logs ≤ 2 ^ 32
   pub length_is : count ≡ length h
 
 -- a finder knows a history
 abbrev pub IsFinderOf : List Event → Finder → Type 0
-IsFinderOf h f = Knows h f.places.english f.places.hebrew f.doers.items f.logs.items f.count
+IsFinderOf h f = Knows h f.places.english f.places.hebrew f.tracks.items f.logs.items f.count
 
 -- of some history that the finder knows, which is not too long, and some event of this sort that may come next
 abbrev pub MayTake : (Event → Type 0) → Finder → Type 0

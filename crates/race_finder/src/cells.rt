@@ -7,8 +7,8 @@ ghost use Rattle.access_shards.specs.Kept.{reading, writing, AreKnown};
 ghost use Rattle.access_shards.specs.Logged.{HasRoom, KeepsOneMore};
 ghost use Rattle.race_finder.specs.Finding.{AreLogsOf, kind_by};
 
-use crate::doer::Doer;
 use crate::places::Places;
+use crate::track::Track;
 use access_shards::{CellLog, Kept};
 use fut_base::list::{Listing, NoMemory};
 use fut_base::record::{Race, Races};
@@ -26,32 +26,32 @@ pub fn grow(alloc: Global, logs: &mut Vec<CellLog>, cell: u32) -> Result<(), NoM
     Ok(())
 }
 
-fn keep_read(log: &mut CellLog, places: &mut Places, doer: &Doer, place: u32)
+fn keep_read(log: &mut CellLog, places: &mut Places, track: &Track, place: u32)
     requires room { HasRoom log.old }
-    requires at_known { doer.now.at.number < length places.old.english }
-    requires table_known { AllKnown (length places.old.english) doer.now.reach }
+    requires at_known { track.now.at.number < length places.old.english }
+    requires table_known { AllKnown (length places.old.english) track.now.reach }
     requires kept_known { AreKnown (length places.old.english) log.old.kept }
-    ensures kept { KeepsOneMore doer.now.reach doer.now.at place reading (length places.old.english) places.old.english places.old.hebrew log.old log.new }
+    ensures kept { KeepsOneMore track.now.reach track.now.at place reading (length places.old.english) places.old.english places.old.hebrew log.old log.new }
     ensures english { places.new.english ≡ places.old.english }
     ensures hebrew { places.new.hebrew ≡ places.old.hebrew }
 {
-    match log.read(places, &doer.reach, doer.at, place) {
+    match log.read(places, &track.reach, track.at, place) {
         Ok(()) => {}
         // The labels of these lists don't move.
         Err(_) => {}
     }
 }
 
-fn keep_write(log: &mut CellLog, places: &mut Places, doer: &Doer, place: u32)
+fn keep_write(log: &mut CellLog, places: &mut Places, track: &Track, place: u32)
     requires room { HasRoom log.old }
-    requires at_known { doer.now.at.number < length places.old.english }
-    requires table_known { AllKnown (length places.old.english) doer.now.reach }
+    requires at_known { track.now.at.number < length places.old.english }
+    requires table_known { AllKnown (length places.old.english) track.now.reach }
     requires kept_known { AreKnown (length places.old.english) log.old.kept }
-    ensures kept { KeepsOneMore doer.now.reach doer.now.at place writing (length places.old.english) places.old.english places.old.hebrew log.old log.new }
+    ensures kept { KeepsOneMore track.now.reach track.now.at place writing (length places.old.english) places.old.english places.old.hebrew log.old log.new }
     ensures english { places.new.english ≡ places.old.english }
     ensures hebrew { places.new.hebrew ≡ places.old.hebrew }
 {
-    match log.write(places, &doer.reach, doer.at, place) {
+    match log.write(places, &track.reach, track.at, place) {
         Ok(()) => {}
         // The labels of these lists don't move.
         Err(_) => {}
@@ -59,21 +59,21 @@ fn keep_write(log: &mut CellLog, places: &mut Places, doer: &Doer, place: u32)
 }
 
 /// Keeps an access of a task at a place above all earlier ones.
-pub fn keep(log: &mut CellLog, places: &mut Places, doer: &Doer, place: u32, writes: bool)
+pub fn keep(log: &mut CellLog, places: &mut Places, track: &Track, place: u32, writes: bool)
     requires room { HasRoom log.old }
-    requires at_known { doer.now.at.number < length places.old.english }
-    requires table_known { AllKnown (length places.old.english) doer.now.reach }
+    requires at_known { track.now.at.number < length places.old.english }
+    requires table_known { AllKnown (length places.old.english) track.now.reach }
     requires kept_known { AreKnown (length places.old.english) log.old.kept }
-    ensures kept { KeepsOneMore doer.now.reach doer.now.at place (kind_by writes)
+    ensures kept { KeepsOneMore track.now.reach track.now.at place (kind_by writes)
         (length places.old.english) places.old.english places.old.hebrew log.old log.new }
     ensures english { places.new.english ≡ places.old.english }
     ensures hebrew { places.new.hebrew ≡ places.old.hebrew }
 {
     if writes {
-        keep_write(log, places, doer, place);
+        keep_write(log, places, track, place);
         return;
     }
-    keep_read(log, places, doer, place);
+    keep_read(log, places, track, place);
 }
 
 /// The report of a history of which these logs are kept.

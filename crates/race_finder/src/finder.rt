@@ -8,10 +8,10 @@ ghost use Rattle.access_shards.specs.Kept.{IsKept};
 ghost use Rattle.race_finder.specs.Finding.{IsFinderOf, MayTake, Takes, Stays, IsAccessBy, IsForkBy, IsSyncBy, IsGetBy, IsEndBy};
 
 use crate::cells::{grow, keep, report};
-use crate::doer::Doer;
 use crate::forks::{Fork, fork_one};
 use crate::joins::{first_last, get_one, sync_one, table_after_get, table_of_block};
 use crate::places::Places;
+use crate::track::Track;
 use access_shards::CellLog;
 use fut_base::list::{Listing, NoMemory};
 use fut_base::record::{Act, Entry, Races};
@@ -24,7 +24,7 @@ use strand_tree::root;
 pub struct Finder {
     alloc: Global,
     places: Places,
-    doers: Vec<Doer>,
+    tracks: Vec<Track>,
     logs: Vec<CellLog>,
     count: u32,
 }
@@ -35,8 +35,8 @@ impl Finder {
         ensures { IfOk result (λ f. IsFinderOf [] f) }
     {
         let places = Places::make(alloc)?;
-        let mut doers = Vec::new(alloc);
-        doers.push(Doer {
+        let mut tracks = Vec::new(alloc);
+        tracks.push(Track {
             at: root(),
             reach: Reach::empty(alloc),
             block: Listing::make(alloc),
@@ -45,7 +45,7 @@ impl Finder {
         Ok(Finder {
             alloc,
             places,
-            doers,
+            tracks,
             logs: Vec::new(alloc),
             count: 0,
         })
@@ -91,7 +91,7 @@ impl Finder {
         keep(
             &mut self.logs[cell as usize],
             &mut self.places,
-            &self.doers[task as usize],
+            &self.tracks[task as usize],
             self.count,
             writes,
         );
@@ -106,15 +106,15 @@ impl Finder {
         ensures stays { OnErr result (Stays self.old self.new) }
     {
         self.places.reserve(2)?;
-        self.doers.reserve(1)?;
+        self.tracks.reserve(1)?;
         let kid = fork_one(
             self.alloc,
             &mut self.places,
-            &mut self.doers[task as usize],
+            &mut self.tracks[task as usize],
             child,
             fork,
         )?;
-        self.doers.push_reserved(kid);
+        self.tracks.push_reserved(kid);
         self.count += 1;
         Ok(())
     }
@@ -126,8 +126,8 @@ impl Finder {
         ensures stays { OnErr result (Stays self.old self.new) }
     {
         self.places.reserve(1)?;
-        let reach = table_after_get(self.doers.as_slice(), &self.places, task, future)?;
-        get_one(&mut self.places, &mut self.doers[task as usize], reach);
+        let reach = table_after_get(self.tracks.as_slice(), &self.places, task, future)?;
+        get_one(&mut self.places, &mut self.tracks[task as usize], reach);
         self.count += 1;
         Ok(())
     }
@@ -139,12 +139,12 @@ impl Finder {
         ensures stays { OnErr result (Stays self.old self.new) }
     {
         self.places.reserve(1)?;
-        let reach = table_of_block(self.doers.as_slice(), &self.places, task)?;
-        let last = first_last(self.doers.as_slice(), &self.places, task);
+        let reach = table_of_block(self.tracks.as_slice(), &self.places, task)?;
+        let last = first_last(self.tracks.as_slice(), &self.places, task);
         sync_one(
             self.alloc,
             &mut self.places,
-            &mut self.doers[task as usize],
+            &mut self.tracks[task as usize],
             reach,
             last,
         );
@@ -157,7 +157,7 @@ impl Finder {
         requires { MayTake (IsEndBy task) self.old }
         ensures { Takes (IsEndBy task) self.old self.new }
     {
-        self.doers[task as usize].ended = true;
+        self.tracks[task as usize].ended = true;
         self.count += 1;
     }
 }

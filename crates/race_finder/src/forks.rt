@@ -1,10 +1,10 @@
 //! Spawns and creates.
 ghost use Rattle.std.specs.Prelude.{◌≡◌, ℕ, ◌<◌, ◌≤◌, length, IfOk, OnErr};
 ghost use Rattle.strand_tree.specs.Placing.{AreNext};
-ghost use Rattle.race_finder.specs.Acting.{SpawnsOne, CreatesOne, ForksOne, IsSameDoer};
+ghost use Rattle.race_finder.specs.Acting.{SpawnsOne, CreatesOne, ForksOne, IsSameTrack};
 
-use crate::doer::Doer;
 use crate::places::Places;
+use crate::track::Track;
 use fut_base::list::{Listing, NoMemory};
 use std::alloc::Global;
 use strand_tree::{create, spawn};
@@ -22,21 +22,21 @@ pub enum Fork {
 pub fn fork_one(
     alloc: Global,
     places: &mut Places,
-    doer: &mut Doer,
+    track: &mut Track,
     child: u32,
     fork: Fork,
-) -> Result<Doer, NoMemory>
-    requires english { doer.old.at.number < length places.old.english }
-    requires hebrew { doer.old.at.number < length places.old.hebrew }
+) -> Result<Track, NoMemory>
+    requires english { track.old.at.number < length places.old.english }
+    requires hebrew { track.old.at.number < length places.old.hebrew }
     requires room { 2 ≤ places.old.room }
-    ensures numbers { IfOk result (λ kid. AreNext (length places.old.english) kid.at.number doer.new.at.number) }
-    ensures forks { IfOk result (λ kid. ForksOne fork places.old doer.old child places.new doer.new kid) }
-    ensures same { OnErr result (IsSameDoer doer.old doer.new) }
+    ensures numbers { IfOk result (λ kid. AreNext (length places.old.english) kid.at.number track.new.at.number) }
+    ensures forks { IfOk result (λ kid. ForksOne fork places.old track.old child places.new track.new kid) }
+    ensures same { OnErr result (IsSameTrack track.old track.new) }
     ensures unchanged { OnErr result (places.new ≡ places.old) }
 {
     match fork {
-        Fork::Spawn => spawn_one(alloc, places, doer, child),
-        Fork::Create => create_one(alloc, places, doer, child),
+        Fork::Spawn => spawn_one(alloc, places, track, child),
+        Fork::Create => create_one(alloc, places, track, child),
     }
 }
 
@@ -44,23 +44,23 @@ pub fn fork_one(
 fn spawn_one(
     alloc: Global,
     places: &mut Places,
-    doer: &mut Doer,
+    track: &mut Track,
     child: u32,
-) -> Result<Doer, NoMemory>
-    requires english { doer.old.at.number < length places.old.english }
-    requires hebrew { doer.old.at.number < length places.old.hebrew }
+) -> Result<Track, NoMemory>
+    requires english { track.old.at.number < length places.old.english }
+    requires hebrew { track.old.at.number < length places.old.hebrew }
     requires room { 2 ≤ places.old.room }
-    ensures numbers { IfOk result (λ kid. AreNext (length places.old.english) kid.at.number doer.new.at.number) }
-    ensures spawns { IfOk result (λ kid. SpawnsOne places.old doer.old child places.new doer.new kid) }
-    ensures same { OnErr result (IsSameDoer doer.old doer.new) }
+    ensures numbers { IfOk result (λ kid. AreNext (length places.old.english) kid.at.number track.new.at.number) }
+    ensures spawns { IfOk result (λ kid. SpawnsOne places.old track.old child places.new track.new kid) }
+    ensures same { OnErr result (IsSameTrack track.old track.new) }
     ensures unchanged { OnErr result (places.new ≡ places.old) }
 {
-    let reach = doer.reach.share()?;
-    doer.block.reserve()?;
-    let (kid, cont) = spawn(places, doer.at);
-    doer.at = cont;
-    doer.block.push(child);
-    Ok(Doer {
+    let reach = track.reach.share()?;
+    track.block.reserve()?;
+    let (kid, cont) = spawn(places, track.at);
+    track.at = cont;
+    track.block.push(child);
+    Ok(Track {
         at: kid,
         reach,
         block: Listing::make(alloc),
@@ -72,21 +72,21 @@ fn spawn_one(
 fn create_one(
     alloc: Global,
     places: &mut Places,
-    doer: &mut Doer,
+    track: &mut Track,
     child: u32,
-) -> Result<Doer, NoMemory>
-    requires english { doer.old.at.number < length places.old.english }
-    requires hebrew { doer.old.at.number < length places.old.hebrew }
+) -> Result<Track, NoMemory>
+    requires english { track.old.at.number < length places.old.english }
+    requires hebrew { track.old.at.number < length places.old.hebrew }
     requires room { 2 ≤ places.old.room }
-    ensures numbers { IfOk result (λ kid. AreNext (length places.old.english) kid.at.number doer.new.at.number) }
-    ensures creates { IfOk result (λ kid. CreatesOne places.old doer.old child places.new doer.new kid) }
-    ensures same { OnErr result (IsSameDoer doer.old doer.new) }
+    ensures numbers { IfOk result (λ kid. AreNext (length places.old.english) kid.at.number track.new.at.number) }
+    ensures creates { IfOk result (λ kid. CreatesOne places.old track.old child places.new track.new kid) }
+    ensures same { OnErr result (IsSameTrack track.old track.new) }
     ensures unchanged { OnErr result (places.new ≡ places.old) }
 {
-    let reach = doer.reach.created(doer.at)?;
-    let (kid, cont) = create(places, doer.at, child);
-    doer.at = cont;
-    Ok(Doer {
+    let reach = track.reach.created(track.at)?;
+    let (kid, cont) = create(places, track.at, child);
+    track.at = cont;
+    Ok(Track {
         at: kid,
         reach,
         block: Listing::make(alloc),

@@ -6,13 +6,13 @@
 #![tactic(auto)]
 
 mod cells;
-mod doer;
 mod finder;
 mod forks;
 mod joins;
 mod places;
 #[cfg(test)]
 mod tests;
+mod track;
 mod whole;
 
 pub use finder::Finder;

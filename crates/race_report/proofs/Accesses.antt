@@ -1,7 +1,8 @@
 -- The code's tests of accesses, and the definition of a race.
 use Rattle.std.proofs.Common.{◌≡◌, ℕ, true, false, refl, sym, ◌∙◌, ap, subst, inl, inr, ◌⊎◌, eq-eqb}
 use Rattle.std.specs.Prelude.{Option, Some, None, List, not, ◌||◌, ◌==◌, IsTrue, ◌↔◌}
-use Rattle.std.proofs.lemmas.Bool.{false≢true, and_parts, and_from, or_cases, or_left, or_right, eqb-true, not-true, not_from_false, false_from_ne_true, both_ways}
+use Rattle.std.proofs.lemmas.Bool.{false≢true, and_parts, and_from, or_cases, or_left, or_right}
+use Rattle.std.proofs.lemmas.Bool.{eqb-true, not-true, not_from_false, false_from_ne_true, both_ways}
 use Rattle.std.proofs.lemmas.Option.{none-some, same_Some}
 use Rattle.fut_base.specs.declared.event.Event.{Event}
 use Rattle.fut_base.specs.declared.event.Action.{Action}
@@ -40,7 +41,8 @@ made (Syncs _) c h = absurd h
 made (Gets _ _ _) c h = absurd h
 made (Ends _) c h = absurd h
 
-conflict_parts : (access : Access) (o : Option Access) → is_conflict access o ≡ true → (other : Access) × (o ≡ Some other) × (other.cell ≡ access.cell) × ((other.writes ≡ true) ⊎ (access.writes ≡ true))
+conflict_parts : (access : Access) (o : Option Access) → is_conflict access o ≡ true
+    → (other : Access) × (o ≡ Some other) × (other.cell ≡ access.cell) × ((other.writes ≡ true) ⊎ (access.writes ≡ true))
 conflict_parts access None h = absurd (false≢true h)
 conflict_parts access (Some other) h =
     let both = and_parts (other.cell == access.cell) (other.writes || access.writes) h in
@@ -57,7 +59,8 @@ conflict_from access other same writes =
 abbrev pub HasJoined : List Event → Joined → ℕ → Type 0
 HasJoined h joined strand = (v : ℕ) → IsTrue (is_joined joined v) ↔ AreJoined h v strand
 
-pub rival_races : (h : List Event) (a b : Event) (access : Access) (joined : Joined) → Makes b.action access → HasJoined h joined b.strand → is_rival access joined a ≡ true → AreRacing h access.cell a b
+pub rival_races : (h : List Event) (a b : Event) (access : Access) (joined : Joined) → Makes b.action access → HasJoined h joined b.strand
+    → is_rival access joined a ≡ true → AreRacing h access.cell a b
 rival_races h a b access joined mb has rival =
     let parts = and_parts (is_conflict access (access_of a.action)) (not (is_joined joined a.strand)) rival in
     let other = conflict_parts access (access_of a.action) parts.0 in
@@ -69,7 +72,8 @@ rival_races h a b access joined mb has rival =
       apart = λ j. both_ways (is_joined joined a.strand) (not-true (is_joined joined a.strand) parts.1) ((has a.strand).1 j);
     }
 
-pub races_rival : (h : List Event) (c : ℕ) (a b : Event) (access : Access) (joined : Joined) → Makes b.action access → HasJoined h joined b.strand → AreRacing h c a b → is_rival access joined a ≡ true
+pub races_rival : (h : List Event) (c : ℕ) (a b : Event) (access : Access) (joined : Joined) → Makes b.action access → HasJoined h joined b.strand
+    → AreRacing h c a b → is_rival access joined a ≡ true
 races_rival h c a b access joined mb has race =
     let other = made a.action c race.one in
     let ma = makes a.action other.0 other.1 in

@@ -24,14 +24,16 @@ known : (h : List Event) (j c : ℕ) (o : Option Race) → (o ≡ None → ⊥) 
 known h j c None some before = absurd (some refl)
 known h j c (Some r) some before = before
 
-pub other_cell : (h : List Event) (j c : ℕ) (r : Race) → IsLastPair h j (Some r) → (c ≡ r.cell → ⊥) → (o : Option Race) → IsFoundBefore h j c o → IsFoundBefore h (j + 1) c o
+pub other_cell : (h : List Event) (j c : ℕ) (r : Race) → IsLastPair h j (Some r) → (c ≡ r.cell → ⊥) → (o : Option Race) → IsFoundBefore h j c o
+    → IsFoundBefore h (j + 1) c o
 other_cell h j c r last other o before = quiet h j c (λ i race. other (last.2 c i race).0) o before
 
 some_not_none : (o : Option Race) → IsSome o → o ≡ None → ⊥
 some_not_none None some none = cc
 some_not_none (Some r) some none = cc
 
-pub known_cell : (h : List Event) (j : ℕ) (r : Race) (found : ℕ → Option Race) → IsLastPair h j (Some r) → IsSome (found r.cell) → (c : ℕ) → IsFoundBefore h j c (found c) → IsFoundBefore h (j + 1) c (found c)
+pub known_cell : (h : List Event) (j : ℕ) (r : Race) (found : ℕ → Option Race) → IsLastPair h j (Some r) → IsSome (found r.cell) → (c : ℕ)
+    → IsFoundBefore h j c (found c) → IsFoundBefore h (j + 1) c (found c)
 known_cell h j r found last some c before =
     elim (cases_eq c r.cell) [
       | inl same ↦ known h j c (found c) (λ none. (let P : ℕ → Type 0 = λ x. IsSome (found x) in some_not_none (found c) (subst P (sym same) some) none)) before
@@ -51,7 +53,8 @@ first_here h j r last before = (
   },
 )
 
-pub new_cell : (h : List Event) (j : ℕ) (r : Race) (found more : ℕ → Option Race) → IsLastPair h j (Some r) → found r.cell ≡ None → more r.cell ≡ Some r → ((c : ℕ) → (c ≡ r.cell → ⊥) → more c ≡ found c) → (c : ℕ) → IsFoundBefore h j c (found c) → IsFoundBefore h (j + 1) c (more c)
+pub new_cell : (h : List Event) (j : ℕ) (r : Race) (found more : ℕ → Option Race) → IsLastPair h j (Some r) → found r.cell ≡ None → more r.cell ≡ Some r
+    → ((c : ℕ) → (c ≡ r.cell → ⊥) → more c ≡ found c) → (c : ℕ) → IsFoundBefore h j c (found c) → IsFoundBefore h (j + 1) c (more c)
 new_cell h j r found more last none put others c before =
     elim (cases_eq c r.cell) [
       | inl same ↦ (

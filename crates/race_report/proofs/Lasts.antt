@@ -18,7 +18,8 @@ no_access h j b at none c i race =
     let access = made b.action c (subst P (same_at h j race.events.1 b race.events.3 at) race.events.4.other) in
     none-some access.0 (sym none ∙ access.1)
 
-module _ (h : List Event) (j : ℕ) (b : Event) (at : slice_get h j ≡ Some b) (access : Access) (is : access_of b.action ≡ Some access) (joined : Joined) (has : HasJoined h joined b.strand) where
+module _ (h : List Event) (j : ℕ) (b : Event) (at : slice_get h j ≡ Some b) (access : Access) (is : access_of b.action ≡ Some access) (joined : Joined)
+    (has : HasJoined h joined b.strand) where
   partner_of : (c i : ℕ) (race : PlacesRace h c i j) → is_rival access joined race.events.0 ≡ true
   partner_of c i race =
       let P : Event → Type 0 = λ e. AreRacing h c race.events.0 e in
@@ -33,7 +34,8 @@ module _ (h : List Event) (j : ℕ) (b : Event) (at : slice_get h j ≡ Some b) 
   no_partner none c i race =
       both_ways (is_rival access joined race.events.0) (none i race.events.0 (to_take h j i race.events.0 race.order race.events.2)) (partner_of c i race)
 
-  pub last_partner : (i : ℕ) → IsLastPlace (is_rival access joined) (take j h) (Some i) → IsLastPair h j (Some (record { cell = access.cell; first = i; second = j }))
+  pub last_partner : (i : ℕ) → IsLastPlace (is_rival access joined) (take j h) (Some i)
+      → IsLastPair h j (Some (record { cell = access.cell; first = i; second = j }))
   last_partner i last = (
     refl,
     record {
@@ -43,7 +45,10 @@ module _ (h : List Event) (j : ℕ) (b : Event) (at : slice_get h j ≡ Some b) 
     λ c m race. (
       cell_of c m race,
       elim (cases_lt i m) [
-        | inl later ↦ absurd (both_ways (is_rival access joined race.events.0) (last.3 m race.events.0 later (to_take h j m race.events.0 race.order race.events.2)) (partner_of c m race))
+        | inl later ↦
+            absurd
+            (both_ways (is_rival access joined race.events.0) (last.3 m race.events.0 later (to_take h j m race.events.0 race.order race.events.2))
+            (partner_of c m race))
         | inr le ↦ le
       ],
     ),

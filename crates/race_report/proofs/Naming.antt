@@ -11,7 +11,8 @@ use Rattle.race_report.specs.Laws.{IsNameOf, CellsAreNamed}
 use Rattle.race_report.specs.Brief.{cell_name}
 
 -- an array that has a cell names it
-pub named_here : (a : CellArray) (rest : List CellArray) (cell index : ℕ) → a.first + index ≡ cell → index < a.length → cell_name (a ∷ rest) cell ≡ a.name ++ (codes "[" ++ (decimal index ++ codes "]"))
+pub named_here : (a : CellArray) (rest : List CellArray) (cell index : ℕ) → a.first + index ≡ cell → index < a.length
+    → cell_name (a ∷ rest) cell ≡ a.name ++ (codes "[" ++ (decimal index ++ codes "]"))
 named_here a rest cell index is few =
     let low : a.first ≤ cell = omega (arith, is) in
     let high : cell < a.first + a.length = omega (arith, is, few) in
@@ -19,11 +20,13 @@ named_here a rest cell index is few =
     rw (le-leb a.first cell low) (rw (lt-ltb cell (a.first + a.length) high) (rw same cc))
 
 -- an array that does not have it leaves it to the others
-pub named_later : (a : CellArray) (rest : List CellArray) (cell : ℕ) → (a.first ≤ cell → cell < a.first + a.length → ⊥) → cell_name (a ∷ rest) cell ≡ cell_name rest cell
+pub named_later : (a : CellArray) (rest : List CellArray) (cell : ℕ) → (a.first ≤ cell → cell < a.first + a.length → ⊥)
+    → cell_name (a ∷ rest) cell ≡ cell_name rest cell
 named_later a rest cell out = grind (arith, leb_tells a.first cell, leb_tells (cell + 1) (a.first + a.length))
 
 -- a cell of the arrays of some items, which are numbered from a cell on
-pub from_named : (items : List tree.Item) (n cell : ℕ) → n ≤ cell → cell < n + count_cells items → IsNameOf (arrays_from n items) cell (cell_name (arrays_from n items) cell)
+pub from_named : (items : List tree.Item) (n cell : ℕ) → n ≤ cell → cell < n + count_cells items
+    → IsNameOf (arrays_from n items) cell (cell_name (arrays_from n items) cell)
 from_named [] n cell low high = absurd (omega (arith, low, high))
 from_named (tree.TaskOf _ _ _ _ ∷ rest) n cell low high = from_named rest n cell low high
 from_named (tree.CellsOf name count ∷ rest) n cell low high =

@@ -71,7 +71,8 @@ reaches_back edges u v r = turn_path _ (map ends_of edges) (turned_back edges) r
 pub reaches_turned : (edges : List Edge) (u v : ℕ) → ReachesBy (map ends_of edges) v u → ReachesBy (map ends_of (map turn (reverse edges))) u v
 reaches_turned edges u v r = turn_path _ _ (turned_onward edges) r.0 v u r.1
 
-path_inside : (steps : List Edge) (p : ℕ → Bool) → All (λ (e : Edge). p e.from ≡ true → p e.to ≡ true) steps → (path : List (ℕ × ℕ)) (u v : ℕ) → IsPath (map ends_of steps) path u v → p u ≡ true → p v ≡ true
+path_inside : (steps : List Edge) (p : ℕ → Bool) → All (λ (e : Edge). p e.from ≡ true → p e.to ≡ true) steps → (path : List (ℕ × ℕ)) (u v : ℕ)
+    → IsPath (map ends_of steps) path u v → p u ≡ true → p v ≡ true
 path_inside steps p closed [] u v h at = subst (λ w. p w ≡ true) h at
 path_inside steps p closed (e ∷ path) u v h at =
     let r = among_from_map ends_of e steps h.0 in
@@ -81,14 +82,17 @@ path_inside steps p closed (e ∷ path) u v h at =
     path_inside steps p closed path e.1 v h.2 (moved (subst (λ w. p w ≡ true) (sym h.1) at))
 
 -- no path leads out of a closed set
-pub stays_inside : (steps : List Edge) (p : ℕ → Bool) → All (λ (e : Edge). p e.from ≡ true → p e.to ≡ true) steps → (u v : ℕ) → ReachesBy (map ends_of steps) u v → p u ≡ true → p v ≡ true
+pub stays_inside : (steps : List Edge) (p : ℕ → Bool) → All (λ (e : Edge). p e.from ≡ true → p e.to ≡ true) steps → (u v : ℕ)
+    → ReachesBy (map ends_of steps) u v → p u ≡ true → p v ≡ true
 stays_inside steps p closed u v r at = path_inside steps p closed r.0 u v r.1 at
 
 pub edge_among : (steps : List Edge) (i : ℕ) (d e : Edge) → i < length steps → e ≡ get_or steps i d → Among (e.from, e.to) (map ends_of steps)
 edge_among steps i d e h is = among_map ends_of e steps (subst (λ x. Among x steps) (sym is) (at_place steps i d h))
 
 -- what a search back and one onward have together is what is joined
-pub joined_iff : (edges : List Edge) (before after : ℕ → Bool) (at : ℕ) → ((v : ℕ) → IsTrue (before v) ↔ ReachesBy (map ends_of (map turn (reverse edges))) at v) → ((v : ℕ) → IsTrue (after v) ↔ ReachesBy (map ends_of edges) at v) → (v : ℕ) → IsTrue (before v || after v) ↔ AreJoinedBy (map ends_of edges) v at
+pub joined_iff : (edges : List Edge) (before after : ℕ → Bool) (at : ℕ) →
+    ((v : ℕ) → IsTrue (before v) ↔ ReachesBy (map ends_of (map turn (reverse edges))) at v)
+    → ((v : ℕ) → IsTrue (after v) ↔ ReachesBy (map ends_of edges) at v) → (v : ℕ) → IsTrue (before v || after v) ↔ AreJoinedBy (map ends_of edges) v at
 joined_iff edges before after at back on v = (
   (λ h. elim (or_cases (before v) (after v) h) [ inl b ↦ inl (reaches_back edges at v ((back v).0 b)) | inr a ↦ inr ((on v).0 a) ]),
   (λ j. elim j [

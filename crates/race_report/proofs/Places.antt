@@ -1,5 +1,6 @@
 -- Places of lists.
-use Rattle.std.proofs.Common.{◌≡◌, ℕ, ◌+◌, ◌<◌, ◌≤◌, Bool, false, List, [], ◌∷◌, length, take, get_or, map, zero, suc, refl, sym, ◌∙◌, ap, subst, arith, inl, inr}
+use Rattle.std.proofs.Common.{◌≡◌, ℕ, ◌+◌, ◌<◌, ◌≤◌, Bool, false, List, [], ◌∷◌, length, take}
+use Rattle.std.proofs.Common.{get_or, map, zero, suc, refl, sym, ◌∙◌, ap, subst, arith, inl, inr}
 use Rattle.std.specs.Prelude.{slice_get, Some, option_map}
 use Rattle.std.proofs.lemmas.Bool.{cases_eq}
 use Rattle.std.proofs.lemmas.List.{length-take}
@@ -33,7 +34,8 @@ same_at xs k x y one other = same_Some x y (sym one ∙ other)
 abbrev pub NoneFrom : {X : Type 0} → (X → Bool) → List X → ℕ → Type 0
 NoneFrom {X} p xs i = (k : ℕ) (x : X) → i ≤ k → slice_get xs k ≡ Some x → p x ≡ false
 
-pub none_from_here : {X : Type 0} (p : X → Bool) (xs : List X) (i n : ℕ) (x : X) → n ≡ i + 1 → slice_get xs i ≡ Some x → p x ≡ false → NoneFrom p xs n → NoneFrom p xs i
+pub none_from_here : {X : Type 0} (p : X → Bool) (xs : List X) (i n : ℕ) (x : X) → n ≡ i + 1 → slice_get xs i ≡ Some x → p x ≡ false → NoneFrom p xs n
+    → NoneFrom p xs i
 none_from_here p xs i n x next at fails later k y le there =
     elim (cases_eq k i) [
       | inl same ↦ subst (λ z. p z ≡ false) (same_at xs i x y at (subst (λ m. slice_get xs m ≡ Some y) same there)) fails

@@ -15,7 +15,8 @@ Follows e p q = (v : ℕ) → q v ≡ (p v || ((e.to == v) && p e.from))
 pub kept_more : (e : Edge) (p q : ℕ → Bool) → Follows e p q → (v : ℕ) → p v ≡ true → q v ≡ true
 kept_more e p q adds v h = adds v ∙ or_left (p v) _ h
 
-pub sound_more : (steps : List Edge) (i : ℕ) (d e : Edge) (p q : ℕ → Bool) (start : ℕ) → i < length steps → e ≡ get_or steps i d → Follows e p q → ((v : ℕ) → p v ≡ true → ReachesBy (map ends_of steps) start v) → (v : ℕ) → q v ≡ true → ReachesBy (map ends_of steps) start v
+pub sound_more : (steps : List Edge) (i : ℕ) (d e : Edge) (p q : ℕ → Bool) (start : ℕ) → i < length steps → e ≡ get_or steps i d → Follows e p q
+    → ((v : ℕ) → p v ≡ true → ReachesBy (map ends_of steps) start v) → (v : ℕ) → q v ≡ true → ReachesBy (map ends_of steps) start v
 sound_more steps i d e p q start lt is adds sound v h =
     elim (or_cases (p v) ((e.to == v) && p e.from) (sym (adds v) ∙ h)) [
       | inl old ↦ sound v old
@@ -40,7 +41,9 @@ same_set e p q adds leads v h =
           subst (λ w. p w ≡ true) (eqb-true e.to v both.0) (leads both.1))
     ]
 
-pub closed_more : (steps : List Edge) (i : ℕ) (d e : Edge) (p q : ℕ → Bool) (old mid new : ℕ) → i < length steps → e ≡ get_or steps i d → Follows e p q → old ≤ mid → new ≡ mid + (if p e.from && not (p e.to) then 1 else 0) → (mid ≡ old → All (λ (s : Edge). p s.from ≡ true → p s.to ≡ true) (take i steps)) → new ≡ old → All (λ (s : Edge). q s.from ≡ true → q s.to ≡ true) (take (i + 1) steps)
+pub closed_more : (steps : List Edge) (i : ℕ) (d e : Edge) (p q : ℕ → Bool) (old mid new : ℕ) → i < length steps → e ≡ get_or steps i d → Follows e p q
+    → old ≤ mid → new ≡ mid + (if p e.from && not (p e.to) then 1 else 0) → (mid ≡ old → All (λ (s : Edge). p s.from ≡ true → p s.to ≡ true) (take i steps))
+    → new ≡ old → All (λ (s : Edge). q s.from ≡ true → q s.to ≡ true) (take (i + 1) steps)
 closed_more steps i d e p q old mid new lt is adds le len closed same =
     let P : Edge → Type 0 = λ s. p s.from ≡ true → p s.to ≡ true in
     let Q : Edge → Type 0 = λ s. q s.from ≡ true → q s.to ≡ true in

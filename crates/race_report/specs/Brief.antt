@@ -1,6 +1,7 @@
 -- The brief text of a run: how many tasks, futures and entries it has, its races by the names of their cells, how it ended, and,
 -- where it is asked for, the sum of its cells.
-use Rattle.std.specs.Prelude.{ℕ, ◌+◌, ◌-◌, Bool, true, false, ◌&&◌, nat_lt, nat_le, if◌then◌else◌, List, [], ◌∷◌, ◌++◌, length, count_by, decimal, codes, ℤ, ◌%◌, ◌^◌, sum_by}
+use Rattle.std.specs.Prelude.{ℕ, ◌+◌, ◌-◌, Bool, true, false, ◌&&◌, nat_lt, nat_le, if◌then◌else◌, List}
+use Rattle.std.specs.Prelude.{[], ◌∷◌, ◌++◌, length, count_by, decimal, codes, ℤ, ◌%◌, ◌^◌, sum_by}
 use Rattle.std.specs.Int.{w64, cast_signed, cast_unsigned}
 use Rattle.std.specs.Fmt.{signed_decimal}
 use Rattle.fut_base.specs.declared.event.Event.{Event}

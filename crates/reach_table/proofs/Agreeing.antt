@@ -16,11 +16,14 @@ use Rattle.reach_table.specs.Merging.{IsGreatest}
 use Rattle.reach_table.proofs.Members.{of_number, numbered}
 use Rattle.reach_table.proofs.Greatest.{IsTop, top_of_max, max_of_top, false_if}
 
-pub agree : (s : List Event) (known : ℕ) (english hebrew : List ℕ) → OrdersAgree s known english hebrew → (x y : ℕ) → IsKnownOf s known x → IsKnownOf s known y → x ≢ y → (stands_before x y english && stands_before x y hebrew) ≡ precedes_past (reverse s) x y
-agree s known english hebrew o x y kx ky ne = ap (λ b. b && stands_before x y hebrew) (o.first x y kx ky ne) ∙ ap (λ b. stands_before x y (english_of s) && b) (o.second x y kx ky ne)
+pub agree : (s : List Event) (known : ℕ) (english hebrew : List ℕ) → OrdersAgree s known english hebrew → (x y : ℕ) → IsKnownOf s known x
+    → IsKnownOf s known y → x ≢ y → (stands_before x y english && stands_before x y hebrew) ≡ precedes_past (reverse s) x y
+agree s known english hebrew o x y kx ky ne =
+    ap (λ b. b && stands_before x y hebrew) (o.first x y kx ky ne) ∙ ap (λ b. stands_before x y (english_of s) && b) (o.second x y kx ky ne)
 
 -- what is greatest by the lists is what the definition keeps
-module _ (s : List Event) (sound : IsSound s) (lists : Lists) (own known : ℕ) (ws : List Strand) (orders : OrdersAgree s known lists.english.order lists.hebrew.order) (homes : (w : Strand) → Among w ws → IsStrandOf s w) (all : AllKnown known ws) where
+module _ (s : List Event) (sound : IsSound s) (lists : Lists) (own known : ℕ) (ws : List Strand)
+    (orders : OrdersAgree s known lists.english.order lists.hebrew.order) (homes : (w : Strand) → Among w ws → IsStrandOf s w) (all : AllKnown known ws) where
   known_of : (w : Strand) → Among w ws → IsKnownOf s known w.number
   known_of w a = record { less = all w a; there = (homes w a).there }
 
@@ -38,7 +41,9 @@ module _ (s : List Event) (sound : IsSound s) (lists : Lists) (own known : ℕ) 
             elim (same_or_not k.0.number w.number) [
               | inl e ↦ false_if _ (λ p. not_before_self (reverse s) sound w.number (subst (λ z. precedes_past (reverse s) w.number z ≡ true) (sym k.2 ∙ e) p))
               | inr ne ↦ subst (λ z. precedes_past (reverse s) w.number z ≡ false) k.2
-                  (sym (agree s known lists.english.order lists.hebrew.order orders w.number k.0.number (known_of w g.among) (known_of k.0 k.1) (λ e. ne (sym e))) ∙ g.greatest k.0 k.1 hk ne)
+                  (sym
+                  (agree s known lists.english.order lists.hebrew.order orders w.number k.0.number (known_of w g.among) (known_of k.0 k.1)
+                  (λ e. ne (sym e))) ∙ g.greatest k.0 k.1 hk ne)
             ]);
       }
 
@@ -51,7 +56,8 @@ module _ (s : List Event) (sound : IsSound s) (lists : Lists) (own known : ℕ) 
             ∙ t.top x.number (numbered x ws b) (sym (home x b) ∙ h ∙ home w a);
       }
 
-  pub kept_is_max : (table : List Strand) → ((w : Strand) → Among w table ↔ IsGreatest lists own ws w) → (x : ℕ) → Among x (map number_of table) ↔ Among x (maximal (reverse s) own (map number_of ws))
+  pub kept_is_max : (table : List Strand) → ((w : Strand) → Among w table ↔ IsGreatest lists own ws w) → (x : ℕ) → Among x (map number_of table)
+      ↔ Among x (maximal (reverse s) own (map number_of ws))
   kept_is_max table iff x = (
     λ a. (
         let k = of_number x table a in

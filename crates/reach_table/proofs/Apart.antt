@@ -1,5 +1,6 @@
 -- Strands of a rising list that are alone of their futures.
-use Rattle.std.proofs.Common.{◌≡◌, ◌≢◌, ℕ, zero, suc, ◌+◌, ◌-◌, ◌<◌, ◌≤◌, List, [], ◌∷◌, ◌++◌, length, get_or, take, drop, ◌⊎◌, inl, inr, subst, sym, ap, ◌∙◌, arith}
+use Rattle.std.proofs.Common.{◌≡◌, ◌≢◌, ℕ, zero, suc, ◌+◌, ◌-◌, ◌<◌, ◌≤◌, List, [], ◌∷◌, ◌++◌, length}
+use Rattle.std.proofs.Common.{get_or, take, drop, ◌⊎◌, inl, inr, subst, sym, ap, ◌∙◌, arith}
 use Rattle.order_list.specs.Sides.{Lists}
 use Rattle.fut_base.specs.Dag.{Among}
 use Rattle.strand_laws.proofs.Places.{same_or_not}
@@ -20,7 +21,8 @@ from_place (x ∷ xs) (suc a) (suc n) d le lt = from_place xs a n d (omega arith
 
 module _ (ws : List Strand) (r : IsRising ws) where
   no_less : (a n : ℕ) → a ≤ n → n < length ws → (strand_at ws a).future ≤ (strand_at ws n).future
-  no_less a n le lt = after_more ws a (record { number = 0; future = 0 }) (strand_at ws a).future r (omega (arith, le, lt)) (omega arith) (strand_at ws n) (from_place ws a n _ le lt)
+  no_less a n le lt = after_more ws a (record { number = 0; future = 0 }) (strand_at ws a).future r (omega (arith, le, lt)) (omega arith) (strand_at ws n)
+      (from_place ws a n _ le lt)
 
   -- from a place to another futures rise, and the neighbours are of other futures, as is `own`
   pub alone_between : (lists : Lists) (own a last : ℕ) → last < length ws → (own < (strand_at ws a).future) ⊎ ((strand_at ws last).future < own)
@@ -60,7 +62,8 @@ module _ (ws : List Strand) (r : IsRising ws) where
       ]
 
 -- several strands that are left
-pub leaves_run : (lists : Lists) (own : ℕ) (ws left : List Strand) (start i n : ℕ) → start ≤ i → i + n ≤ length ws → Leaves lists own ws i (left ++ part start i ws)
+pub leaves_run : (lists : Lists) (own : ℕ) (ws left : List Strand) (start i n : ℕ) → start ≤ i → i + n ≤ length ws
+    → Leaves lists own ws i (left ++ part start i ws)
     → ((k : ℕ) → i ≤ k → k < i + n → IsGreatest lists own ws (strand_at ws k)) → Leaves lists own ws (i + n) (left ++ part start (i + n) ws)
 leaves_run lists own ws left start i zero le on l g =
     let same : i ≡ i + 0 = omega arith in
@@ -72,7 +75,9 @@ leaves_run lists own ws left start i (suc n) le on l g =
     let same : (i + n) + 1 ≡ i + suc n = omega arith in
     let P : ℕ → Type 0 = λ m. Leaves lists own ws m (left ++ part start m ws) in
     let rest = leaves_run lists own ws left start i n le (omega (arith, on)) l (λ k a b. g k a (omega (arith, b))) in
-    subst P same (leaves_more lists own ws (left ++ part start (i + n) ws) (left ++ part start ((i + n) + 1) ws) (i + n) none lt rest (g (i + n) (omega arith) (omega arith)) (pending_more left ws start (i + n) none (omega (arith, le)) lt))
+    subst P same
+    (leaves_more lists own ws (left ++ part start (i + n) ws) (left ++ part start ((i + n) + 1) ws) (i + n) none lt rest
+    (g (i + n) (omega arith) (omega arith)) (pending_more left ws start (i + n) none (omega (arith, le)) lt))
 
 -- at the end of the list the rest is pending
 pub pending_all : (ws left : List Strand) (start i : ℕ) → start ≤ i → length ws ≤ i → left ++ drop start ws ≡ left ++ part start i ws

@@ -1,5 +1,6 @@
 -- Blocks, their strands and their order.
-use Rattle.std.proofs.Common.{◌≡◌, ◌≢◌, ℕ, zero, suc, ◌+◌, ◌-◌, ◌<◌, ◌≤◌, ◌==◌, Bool, false, true≢false, List, [], ◌∷◌, ◌++◌, length, get_or, take, drop, inl, inr, refl, subst, sym, ap, arith, ◌∙◌}
+use Rattle.std.proofs.Common.{◌≡◌, ◌≢◌, ℕ, zero, suc, ◌+◌, ◌-◌, ◌<◌, ◌≤◌, ◌==◌, Bool, false, true≢false, List, []}
+use Rattle.std.proofs.Common.{◌∷◌, ◌++◌, length, get_or, take, drop, inl, inr, refl, subst, sym, ap, arith, ◌∙◌}
 use Rattle.std.proofs.lemmas.List.{append_assoc, append-nil, take-append-drop, length-map, map_more}
 use Rattle.std.proofs.Math.ListN.{get_or-map}
 use Rattle.std.specs.declared.sync.Arc.{Arc}
@@ -71,7 +72,8 @@ pub blocks_drop : (n : ℕ) (bs : List Block) → AreBlocks bs → AreBlocks (dr
 blocks_drop n bs r = blocks_right (take n bs) (drop n bs) (subst AreBlocks (sym (take-append-drop n bs)) r)
 
 -- a block of a lesser number, and those before it
-pub lesser_more : (bs : List Block) (i : ℕ) (d : Block) (key : ℕ) → AreBlocks bs → i < length bs → (get_or bs i d).key < key → (b : Block) → Among b (take (suc i) bs) → b.key < key
+pub lesser_more : (bs : List Block) (i : ℕ) (d : Block) (key : ℕ) → AreBlocks bs → i < length bs → (get_or bs i d).key < key → (b : Block)
+    → Among b (take (suc i) bs) → b.key < key
 lesser_more [] i d key r lt h b a = absurd (omega arith)
 lesser_more (c ∷ cs) zero d key r lt h b (inl e) = subst (λ (z : Block). z.key < key) e h
 lesser_more (c ∷ cs) zero d key r lt h b (inr a) = absurd a
@@ -81,7 +83,8 @@ lesser_more (c ∷ cs) (suc i) d key r lt h b (inl e) =
 lesser_more (c ∷ cs) (suc i) d key r lt h b (inr a) = lesser_more cs i d key r.2 (omega arith) h b a
 
 -- a block that is not of a lesser number, and those behind it
-pub least_more : (bs : List Block) (i : ℕ) (d : Block) (key : ℕ) → AreBlocks bs → i < length bs → key ≤ (get_or bs i d).key → (b : Block) → Among b (drop i bs) → key ≤ b.key
+pub least_more : (bs : List Block) (i : ℕ) (d : Block) (key : ℕ) → AreBlocks bs → i < length bs → key ≤ (get_or bs i d).key → (b : Block)
+    → Among b (drop i bs) → key ≤ b.key
 least_more [] i d key r lt h b a = absurd (omega arith)
 least_more (c ∷ cs) zero d key r lt h b (inl e) = subst (λ (z : Block). key ≤ z.key) e h
 least_more (c ∷ cs) zero d key r lt h b (inr a) = let k = r.1 b a in omega (arith, k, h)
@@ -117,12 +120,14 @@ first_least (c ∷ cs) b r lt is = ((b, inl is, refl), least)
     least m (d, inr a, k) = let P : Block → Type 0 = λ z. z.key < d.key in let j : P b = subst P is (r.1 d a) in omega (arith, j, k)
 
 -- those behind the block with this number
-pub rest_above : (bs : List Block) (d : Block) (key : ℕ) → AreBlocks bs → 0 < length bs → (get_or bs 0 d).key ≡ key → (b : Block) → Among b (drop 1 bs) → key < b.key
+pub rest_above : (bs : List Block) (d : Block) (key : ℕ) → AreBlocks bs → 0 < length bs → (get_or bs 0 d).key ≡ key → (b : Block) → Among b (drop 1 bs)
+    → key < b.key
 rest_above [] d key r lt is b a = absurd a
 rest_above (c ∷ cs) d key r lt is b a = let k = r.1 b a in omega (arith, k, is)
 
 -- no block has this number
-pub all_above : (bs : List Block) (d : Block) (key : ℕ) → AreBlocks bs → ((b : Block) → Among b bs → key ≤ b.key) → (get_or bs 0 d).key ≢ key → (b : Block) → Among b bs → key < b.key
+pub all_above : (bs : List Block) (d : Block) (key : ℕ) → AreBlocks bs → ((b : Block) → Among b bs → key ≤ b.key) → (get_or bs 0 d).key ≢ key → (b : Block)
+    → Among b bs → key < b.key
 all_above [] d key r least ne b a = absurd a
 all_above (c ∷ cs) d key r least ne b (inl e) =
     let k = least c (inl refl) in
@@ -140,7 +145,8 @@ module _ {Z : Type 0} (shared : List (Arc Block Z)) where
       let P : Block → Type 0 = λ z. get_or (values shared) i z ≡ z in
       subst P (sym e) (get_or-map arc_value shared i r ∙ ap arc_value (sym is))
 
-  pub flat_more : (i : ℕ) (r : Arc Block Z) → i < length shared → r ≡ get_or shared i r → flat (values (take (i + 1) shared)) ≡ flat (values (take i shared)) ++ (arc_value r).strands.items
+  pub flat_more : (i : ℕ) (r : Arc Block Z) → i < length shared → r ≡ get_or shared i r
+      → flat (values (take (i + 1) shared)) ≡ flat (values (take i shared)) ++ (arc_value r).strands.items
   flat_more i r lt is =
       ap flat (map_more arc_value shared i r lt)
       ∙ flat_append (values (take i shared)) (arc_value (get_or shared i r) ∷ [])
@@ -148,7 +154,9 @@ module _ {Z : Type 0} (shared : List (Arc Block Z)) where
       ∙ ap (λ (z : Arc Block Z). flat (values (take i shared)) ++ (arc_value z).strands.items) (sym is)
 
 -- where futures rise from each strand to the next there is one strand of each
-strict : (x : Strand) (xs : List Strand) → IsRising (x ∷ xs) → ((n : ℕ) → 0 ≤ n → n < length (x ∷ xs) - 1 → (strand_at (x ∷ xs) n).future < (strand_at (x ∷ xs) (n + 1)).future) → (y : Strand) → Among y xs → x.future < y.future
+strict : (x : Strand) (xs : List Strand) → IsRising (x ∷ xs)
+    → ((n : ℕ) → 0 ≤ n → n < length (x ∷ xs) - 1 → (strand_at (x ∷ xs) n).future < (strand_at (x ∷ xs) (n + 1)).future) → (y : Strand) → Among y xs
+    → x.future < y.future
 strict x [] r up y a = absurd a
 strict x (z ∷ zs) r up y (inl e) = let k = up 0 (omega arith) (omega arith) in subst (λ (w : Strand). x.future < w.future) e k
 strict x (z ∷ zs) r up y (inr a) =
@@ -156,11 +164,14 @@ strict x (z ∷ zs) r up y (inr a) =
     let j = below_future z y (r.1.0 y a) in
     omega (arith, k, j)
 
-pub one_each : (xs : List Strand) → IsRising xs → ((n : ℕ) → 0 ≤ n → n < length xs - 1 → (strand_at xs n).future < (strand_at xs (n + 1)).future) → HasOneOfEach xs
+pub one_each : (xs : List Strand) → IsRising xs → ((n : ℕ) → 0 ≤ n → n < length xs - 1 → (strand_at xs n).future < (strand_at xs (n + 1)).future)
+    → HasOneOfEach xs
 one_each [] r up w y a b e = absurd a
 one_each (x ∷ xs) r up w y (inl p) (inl q) e = sym p ∙ q
-one_each (x ∷ xs) r up w y (inl p) (inr b) e = let k = strict x xs r up y b in let P : Strand → Type 0 = λ z. z.future < y.future in let j : P w = subst P p k in absurd (omega (arith, j, e))
-one_each (x ∷ xs) r up w y (inr a) (inl q) e = let k = strict x xs r up w a in let P : Strand → Type 0 = λ z. z.future < w.future in let j : P y = subst P q k in absurd (omega (arith, j, e))
+one_each (x ∷ xs) r up w y (inl p) (inr b) e = let k = strict x xs r up y b in let P : Strand → Type 0 = λ z. z.future < y.future in let j : P w =
+    subst P p k in absurd (omega (arith, j, e))
+one_each (x ∷ xs) r up w y (inr a) (inl q) e = let k = strict x xs r up w a in let P : Strand → Type 0 = λ z. z.future < w.future in let j : P y =
+    subst P q k in absurd (omega (arith, j, e))
 one_each (x ∷ xs) r up w y (inr a) (inr b) e = one_each xs r.1 (λ n z lt. (
     let P : ℕ → Type 0 = λ m. (strand_at xs n).future < (strand_at (x ∷ xs) m).future in
     let same : suc n + 1 ≡ suc (n + 1) = omega arith in
@@ -175,7 +186,8 @@ some_of zero b is off = absurd (true≢false (sym is ∙ off))
 some_of (suc n) b is off = omega arith
 
 -- the only block
-pub lone_value : {Z : Type 0} → (shared : List (Arc Block Z)) (r : Arc Block Z) (b : Block) → length shared ≤ 1 → 0 < length shared → r ≡ get_or shared 0 r → b ≡ arc_value r → values shared ≡ b ∷ []
+pub lone_value : {Z : Type 0} → (shared : List (Arc Block Z)) (r : Arc Block Z) (b : Block) → length shared ≤ 1 → 0 < length shared → r ≡ get_or shared 0 r
+    → b ≡ arc_value r → values shared ≡ b ∷ []
 lone_value [] r b few some is e = absurd (omega (arith, some))
 lone_value (x ∷ []) r b few some is e = ap (λ z. z ∷ []) (ap arc_value (sym is) ∙ sym e)
 lone_value (x ∷ y ∷ xs) r b few some is e = absurd (omega (arith, few))

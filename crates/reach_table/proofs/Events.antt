@@ -1,5 +1,6 @@
 -- Tables after one more event.
-use Rattle.std.proofs.Common.{◌≡◌, ◌≢◌, ℕ, ◌+◌, ◌<◌, ◌≤◌, Bool, true, false, List, [], ◌∷◌, ◌++◌, map, flat_map, length, reverse, inl, inr, ◌⊎◌, subst, ap, sym, refl, ◌∙◌, arith, ◌==◌, if◌then◌else◌}
+use Rattle.std.proofs.Common.{◌≡◌, ◌≢◌, ℕ, ◌+◌, ◌<◌, ◌≤◌, Bool, true, false, List, [], ◌∷◌, ◌++◌, map, flat_map}
+use Rattle.std.proofs.Common.{length, reverse, inl, inr, ◌⊎◌, subst, ap, sym, refl, ◌∙◌, arith, ◌==◌, if◌then◌else◌}
 use Rattle.std.specs.Prelude.{◌↔◌, Option, Some, None}
 use Rattle.std.specs.List.{cons_option}
 use Rattle.std.proofs.lemmas.List.{reverse-append}
@@ -51,7 +52,8 @@ module _ (s : List Event) (task at : ℕ) (action : Action) where
       record { same = k.same; homes = λ w a. record { there = k.there w a; future_is = k.home w a } }
 
 -- an old list of strands, as the table of a new strand, or of an old one
-grown : (past : List Event) (task at : ℕ) (action : Action) → IsSoundPast (ev task at action ∷ past) → (v v' : ℕ) (table : List Strand) → IsTable past v table → table_past (ev task at action ∷ past) v' ≡ table_past past v → IsTable (ev task at action ∷ past) v' table
+grown : (past : List Event) (task at : ℕ) (action : Action) → IsSoundPast (ev task at action ∷ past) → (v v' : ℕ) (table : List Strand) → IsTable past v table
+    → table_past (ev task at action ∷ past) v' ≡ table_past past v → IsTable (ev task at action ∷ past) v' table
 grown past task at action sound v v' table t e =
     record {
       same = λ x. subst (λ ws. Among x (map number_of table) ↔ Among x ws) (sym e) (t.same x);
@@ -65,8 +67,10 @@ after_spawn table s task at code child kid cont args sound h =
     let past = reverse s in
     let t = table_in s at table h in
     let sp = sound_in s task at action sound in (
-      table_out s task at action kid table (grown past task at action sp at kid table t (ap (λ b. if b then table_past past at else table_past past kid) (or_left kid cont))),
-      table_out s task at action cont table (grown past task at action sp at cont table t (ap (λ b. if b then table_past past at else table_past past cont) (or_right cont kid))),
+      table_out s task at action kid table
+          (grown past task at action sp at kid table t (ap (λ b. if b then table_past past at else table_past past kid) (or_left kid cont))),
+      table_out s task at action cont table
+          (grown past task at action sp at cont table t (ap (λ b. if b then table_past past at else table_past past cont) (or_right cont kid))),
     )
 
 pub after_create : (table : List Strand) → AfterCreate table table
@@ -77,14 +81,20 @@ after_create table s task at code child kid cont args sound h =
     let next : cont ≡ kid + 1 = sp.1.acts.2 in
     let ne : cont ≢ kid = (λ e. absurd (omega (arith, e, next))) in
     table_out s task at action cont table (grown past task at action sp at cont table (table_in s at table h)
-    (if_off cont kid (at ∷ table_past past at) (if cont == cont then table_past past at else table_past past cont) ne ∙ if_self cont (table_past past at) (table_past past cont)))
+    (if_off cont kid (at ∷ table_past past at) (if cont == cont then table_past past at else table_past past cont) ne
+    ∙ if_self cont (table_past past at) (table_past past cont)))
 
 pub kid_after_create : (old : List Strand) (v : Strand) (new : List Strand) → ((w : Strand) → Among w new ↔ Among w (old ++ v ∷ [])) → KidAfterCreate old v new
 kid_after_create old v new iff s task code child kid cont args sound here h =
     let action : Action = Creates code child kid cont args in
     let past = reverse s in
     let sp = sound_in s task v.number action sound in
-    table_out s task v.number action kid new (record { same = same sp; there = λ w a. (let k = there w a in omega arith); home = λ w a. home w a ∙ sym (home_old past sp.0 task v.number action sp.1 w.number (there w a)) })
+    table_out s task v.number action kid new
+    (record {
+      same = same sp;
+      there = λ w a. (let k = there w a in omega arith);
+      home = λ w a. home w a ∙ sym (home_old past sp.0 task v.number action sp.1 w.number (there w a));
+    })
   where
     there : (w : Strand) → Among w new → w.number < next_strand (reverse s)
     there w a = elim (among_or w old (v ∷ []) ((iff w).0 a)) [
@@ -118,8 +128,11 @@ kid_after_create old v new iff s task code child kid cont args sound here h =
         let k = of_number x old ((h.same x).1 a) in
         subst (λ z. Among z (map number_of new)) k.2 (numbered k.0 new ((iff k.0).1 (among_left k.0 old (v ∷ []) k.1)))
 
-    same : IsSoundPast (ev task v.number (Creates code child kid cont args) ∷ reverse s) → (x : ℕ) → Among x (map number_of new) ↔ Among x (table_past (ev task v.number (Creates code child kid cont args) ∷ reverse s) kid)
-    same sp x = subst (λ ws. Among x (map number_of new) ↔ Among x ws) (sym (if_self kid (v.number ∷ table_past (reverse s) v.number) (if kid == cont then table_past (reverse s) v.number else table_past (reverse s) kid))) (to x, back x)
+    same : IsSoundPast (ev task v.number (Creates code child kid cont args) ∷ reverse s) → (x : ℕ) → Among x (map number_of new)
+        ↔ Among x (table_past (ev task v.number (Creates code child kid cont args) ∷ reverse s) kid)
+    same sp x = subst (λ ws. Among x (map number_of new) ↔ Among x ws)
+        (sym (if_self kid (v.number ∷ table_past (reverse s) v.number) (if kid == cont then table_past (reverse s) v.number else table_past (reverse s) kid)))
+        (to x, back x)
 
 -- a strand that an event makes from others, with a table that is what these leave
 made : (s : List Event) (task at : ℕ) (action : Action) (v own : ℕ) (xs : List ℕ) (table : List Strand)
@@ -135,7 +148,8 @@ made s task at action v own xs table sound is same homes =
     })
 
 -- the strands that are put together
-together_or : (one other : List Strand) (last : Option Strand) (w : Strand) → Among w (together one other last) → Among w one ⊎ Among w other ⊎ Among w (listed last)
+together_or : (one other : List Strand) (last : Option Strand) (w : Strand) → Among w (together one other last)
+    → Among w one ⊎ Among w other ⊎ Among w (listed last)
 together_or one other last w a = elim (among_or w (one ++ other) (listed last) a) [
   | inl l ↦ elim (among_or w one other l) [ inl k ↦ inl k | inr k ↦ inr (inl k) ]
   | inr r ↦ inr (inr r)
@@ -162,7 +176,9 @@ last_is last end w is a = elim (subst (λ o. Among w (listed o)) is a) [ inl e �
 no_last : (last : Option Strand) (w : Strand) → last ≡ None → Among w (listed last) → ⊥
 no_last last w is a = subst (λ o. Among w (listed o)) is a
 
-module _ (lists : Lists) (own : ℕ) (one other new : List Strand) (last : Option Strand) (iff : (w : Strand) → Among w new ↔ IsGreatest lists own (together one other last) w) (all : AllKnown (length lists.english.order) (together one other last)) where
+module _ (lists : Lists) (own : ℕ) (one other new : List Strand) (last : Option Strand)
+    (iff : (w : Strand) → Among w new ↔ IsGreatest lists own (together one other last) w)
+    (all : AllKnown (length lists.english.order) (together one other last)) where
   pub after_get : AfterGet lists own one other last new
   after_get s task future strand value at end sound at_is own_is h1 end_is is_last ended h2 orders =
       made s task at.number action strand own xs new sound is same (λ w a. homes w ((iff w).0 a).among)
@@ -182,7 +198,9 @@ module _ (lists : Lists) (own : ℕ) (one other new : List Strand) (last : Optio
       is : table_past (ev task at.number action ∷ reverse s) strand ≡ maximal (reverse s) own xs
       is =
           let f : ℕ → List ℕ = λ l. l ∷ table_past (reverse s) l in
-          if_self strand (maximal (reverse s) (future_of (reverse s) task) (table_past (reverse s) at.number ++ flat_map f (lasts_of (reverse s) (future ∷ [])))) (table_past (reverse s) strand)
+          if_self strand
+          (maximal (reverse s) (future_of (reverse s) task) (table_past (reverse s) at.number ++ flat_map f (lasts_of (reverse s) (future ∷ []))))
+          (table_past (reverse s) strand)
           ∙ ap (λ g. maximal (reverse s) g (table_past (reverse s) at.number ++ flat_map f (lasts_of (reverse s) (future ∷ [])))) own_task
           ∙ ap (λ o. maximal (reverse s) own (table_past (reverse s) at.number ++ flat_map f (cons_option o []))) ended
 
@@ -198,8 +216,11 @@ module _ (lists : Lists) (own : ℕ) (one other new : List Strand) (last : Optio
           let k = of_number z (together one other last) a in
           elim (together_or one other last k.0 k.1) [
             | inl l ↦ among_left z (table_past (reverse s) at.number) _ ((h1.same z).0 (subst (λ y. Among y (map number_of one)) k.2 (numbered k.0 one l)))
-            | inr (inl l) ↦ among_right z (table_past (reverse s) at.number) _ (among_left z (end.number ∷ table_past (reverse s) end.number) [] (inr ((h2.same z).0 (subst (λ y. Among y (map number_of other)) k.2 (numbered k.0 other l)))))
-            | inr (inr l) ↦ among_right z (table_past (reverse s) at.number) _ (among_left z (end.number ∷ table_past (reverse s) end.number) [] (inl (ap number_of (last_is last end k.0 is_last l) ∙ k.2)))
+            | inr (inl l) ↦ among_right z (table_past (reverse s) at.number) _
+                (among_left z (end.number ∷ table_past (reverse s) end.number) []
+                (inr ((h2.same z).0 (subst (λ y. Among y (map number_of other)) k.2 (numbered k.0 other l)))))
+            | inr (inr l) ↦ among_right z (table_past (reverse s) at.number) _
+                (among_left z (end.number ∷ table_past (reverse s) end.number) [] (inl (ap number_of (last_is last end k.0 is_last l) ∙ k.2)))
           ]
 
       back : (z : ℕ) → Among z xs → Among z (map number_of (together one other last))
@@ -208,7 +229,8 @@ module _ (lists : Lists) (own : ℕ) (one other new : List Strand) (last : Optio
         | inr r ↦ elim (among_or z (end.number ∷ table_past (reverse s) end.number) [] r) [
           | inr k ↦ absurd k
           | inl (inr l) ↦ lift other _ (in_other one other last) z ((h2.same z).1 l)
-          | inl (inl e) ↦ subst (λ y. Among y (map number_of (together one other last))) e (numbered end _ (in_last one other last end (last_in last end is_last)))
+          | inl (inl e) ↦ subst (λ y. Among y (map number_of (together one other last))) e
+              (numbered end _ (in_last one other last end (last_in last end is_last)))
         ]
       ]
 
@@ -250,28 +272,33 @@ module _ (lists : Lists) (own : ℕ) (one other new : List Strand) (last : Optio
       low : (z : ℕ) → Among z (flat_map (table_past (reverse s)) strands) → z < next_strand (reverse s)
       low z a = let k = flat_out (table_past (reverse s)) z strands a in low_of k.0 z (m.there k.0 k.1) k.2
 
-      to : (z : ℕ) → Among z (map number_of (together one other last)) → Among z (maximal (reverse s) own (flat_map (table_past (reverse s)) strands) ++ table_past (reverse s) v)
+      to : (z : ℕ) → Among z (map number_of (together one other last)) → Among z
+          (maximal (reverse s) own (flat_map (table_past (reverse s)) strands) ++ table_past (reverse s) v)
       to z a =
           let k = of_number z (together one other last) a in
           elim (together_or one other last k.0 k.1) [
             | inl l ↦ among_left z _ (table_past (reverse s) v) ((m.same z).0 (subst (λ y. Among y (map number_of one)) k.2 (numbered k.0 one l)))
-            | inr (inl l) ↦ among_right z (maximal (reverse s) own (flat_map (table_past (reverse s)) strands)) _ ((h.same z).0 (subst (λ y. Among y (map number_of other)) k.2 (numbered k.0 other l)))
+            | inr (inl l) ↦ among_right z (maximal (reverse s) own (flat_map (table_past (reverse s)) strands)) _
+                ((h.same z).0 (subst (λ y. Among y (map number_of other)) k.2 (numbered k.0 other l)))
             | inr (inr l) ↦ absurd (no_last last k.0 none l)
           ]
 
-      back : (z : ℕ) → Among z (maximal (reverse s) own (flat_map (table_past (reverse s)) strands) ++ table_past (reverse s) v) → Among z (map number_of (together one other last))
+      back : (z : ℕ) → Among z (maximal (reverse s) own (flat_map (table_past (reverse s)) strands) ++ table_past (reverse s) v)
+          → Among z (map number_of (together one other last))
       back z a = elim (among_or z (maximal (reverse s) own (flat_map (table_past (reverse s)) strands)) (table_past (reverse s) v) a) [
         | inl l ↦ lift one _ (in_one one other last) z ((m.same z).1 l)
         | inr r ↦ lift other _ (in_other one other last) z ((h.same z).1 r)
       ]
 
-      out : (z : ℕ) → Among z (flat_map (table_past (reverse s)) strands ++ table_past (reverse s) v) → Among z (flat_map (table_past (reverse s)) (strands ++ v ∷ []))
+      out : (z : ℕ) → Among z (flat_map (table_past (reverse s)) strands ++ table_past (reverse s) v)
+          → Among z (flat_map (table_past (reverse s)) (strands ++ v ∷ []))
       out z a = elim (among_or z (flat_map (table_past (reverse s)) strands) (table_past (reverse s) v) a) [
         | inl l ↦ (let k = flat_out (table_past (reverse s)) z strands l in flat_in (table_past (reverse s)) z k.0 _ (among_left k.0 strands (v ∷ []) k.1) k.2)
         | inr r ↦ flat_in (table_past (reverse s)) z v _ (among_right v strands (v ∷ []) (inl refl)) r
       ]
 
-      ins : (z : ℕ) → Among z (flat_map (table_past (reverse s)) (strands ++ v ∷ [])) → Among z (flat_map (table_past (reverse s)) strands ++ table_past (reverse s) v)
+      ins : (z : ℕ) → Among z (flat_map (table_past (reverse s)) (strands ++ v ∷ []))
+          → Among z (flat_map (table_past (reverse s)) strands ++ table_past (reverse s) v)
       ins z a =
           let k = flat_out (table_past (reverse s)) z (strands ++ v ∷ []) a in
           elim (among_or k.0 strands (v ∷ []) k.1) [
@@ -290,7 +317,8 @@ module _ (lists : Lists) (own : ℕ) (one other new : List Strand) (last : Optio
           let j = max_same past own (map number_of (together one other last)) (maximal past own xs ++ ys) to back x in
           let i = max_same past own (xs ++ ys) (flat_map (table_past past) (strands ++ v ∷ [])) out ins x in (
             λ a. i.0 (max_of_top past own (xs ++ ys) x (again past sound own xs ys low ly x (top_of_max past own (maximal past own xs ++ ys) x (j.0 (k.0 a))))),
-            λ a. k.1 (j.1 (max_of_top past own (maximal past own xs ++ ys) x (at_once past sound own xs ys low ly x (top_of_max past own (xs ++ ys) x (i.1 a))))),
+            λ a. k.1
+                (j.1 (max_of_top past own (maximal past own xs ++ ys) x (at_once past sound own xs ys low ly x (top_of_max past own (xs ++ ys) x (i.1 a))))),
           )
 
 pub merge_begins : MergeBegins
@@ -309,7 +337,8 @@ merge_begins s at table sound at_is h = record { same = same; homes = h.homes; t
     alone : (z : ℕ) → Among z (table_past (reverse s) at.number ++ []) → Among z (table_past (reverse s) at.number)
     alone z a = elim (among_or z (table_past (reverse s) at.number) [] a) [ inl l ↦ l | inr k ↦ absurd k ]
 
-    apart : (x y : ℕ) → Among x (table_past (reverse s) at.number) → Among y (table_past (reverse s) at.number) → home_of (reverse s) y ≡ home_of (reverse s) x → precedes_past (reverse s) x y ≡ true → ⊥
+    apart : (x y : ℕ) → Among x (table_past (reverse s) at.number) → Among y (table_past (reverse s) at.number)
+        → home_of (reverse s) y ≡ home_of (reverse s) x → precedes_past (reverse s) x y ≡ true → ⊥
     apart x y a b e p =
         let ne : x ≢ y = (λ q. not_before_self (reverse s) sound x (subst (λ z. precedes_past (reverse s) x z ≡ true) (sym q) p)) in
         ne (o.apart x y a b (sym e) (far_of_precedes (reverse s) sound x y (low x a) (low y b) (sym e) ne p))
@@ -347,7 +376,8 @@ module _ (past : List Event) (t s : ℕ) where
   table_old (Creates code c k y args) m v l =
       let e : k ≡ next_strand past = m.acts.1 in
       let d : y ≡ k + 1 = m.acts.2 in
-      if_off v k (s ∷ table_past past s) (if v == y then table_past past s else table_past past v) (λ q. absurd (omega arith)) ∙ if_off v y (table_past past s) (table_past past v) (λ q. absurd (omega arith))
+      if_off v k (s ∷ table_past past s) (if v == y then table_past past s else table_past past v) (λ q. absurd (omega arith))
+      ∙ if_off v y (table_past past s) (table_past past v) (λ q. absurd (omega arith))
   table_old (Syncs x) m v l = let e : x ≡ next_strand past = m.acts.0 in if_off v x _ (table_past past v) (λ q. absurd (omega arith))
   table_old (Gets f g x) m v l = let e : x ≡ next_strand past = m.acts.0 in if_off v x _ (table_past past v) (λ q. absurd (omega arith))
   table_old (Ends _) m v l = refl
@@ -360,7 +390,8 @@ pub sound_before : (later past : List Event) → IsSoundPast (later ++ past) →
 sound_before [] past sp = sp
 sound_before (e ∷ later) past sp = sound_before later past sp.0
 
-tables_later : (later past : List Event) (v : ℕ) (table : List Strand) → IsSoundPast (later ++ past) → v < next_strand past → IsTable past v table → IsTable (later ++ past) v table
+tables_later : (later past : List Event) (v : ℕ) (table : List Strand) → IsSoundPast (later ++ past) → v < next_strand past → IsTable past v table
+    → IsTable (later ++ past) v table
 tables_later [] past v table sp lv t = t
 tables_later (e ∷ later) past v table sp lv t =
     let ih = tables_later later past v table sp.0 lv t in
@@ -381,7 +412,8 @@ same_bool false true f g = g refl
 same_bool false false f g = refl
 
 -- where places are kept, so is the order
-same_before : (n : ℕ) (xs ys : List ℕ) (x y : ℕ) → Keeps n (λ v. place v xs) (λ v. place v ys) → x < n → y < n → x ≢ y → Among y xs → Among y ys → stands_before x y ys ≡ stands_before x y xs
+same_before : (n : ℕ) (xs ys : List ℕ) (x y : ℕ) → Keeps n (λ v. place v xs) (λ v. place v ys) → x < n → y < n → x ≢ y → Among y xs → Among y ys
+    → stands_before x y ys ≡ stands_before x y xs
 same_before n xs ys x y keeps lx ly ne ax ay =
     same_bool _ _
     (λ p. (
@@ -393,7 +425,8 @@ same_before n xs ys x y keeps lx ly ne ax ay =
     (λ p. place_before x y ys ay (keeps.lt x y lx ly (before_place x y xs ne p)))
 
 module _ (x y : ℕ) (ne : x ≢ y) where
-  english_later : (later past : List Event) → IsSoundPast (later ++ past) → x < next_strand past → y < next_strand past → stands_before x y (english_past (later ++ past)) ≡ stands_before x y (english_past past)
+  english_later : (later past : List Event) → IsSoundPast (later ++ past) → x < next_strand past → y < next_strand past
+      → stands_before x y (english_past (later ++ past)) ≡ stands_before x y (english_past past)
   english_later [] past sp lx ly = refl
   english_later (e ∷ later) past sp lx ly =
       let p : List Event = later ++ past in
@@ -401,17 +434,20 @@ module _ (x y : ℕ) (ne : x ≢ y) where
       let g = grows_next (later ++ past) sp.0 e.task e.strand e.action sp.1 in
       let here : x < next_strand (later ++ past) = omega arith in
       let there : y < next_strand (later ++ past) = omega arith in
-      same_before (next_strand (later ++ past)) (english_past (later ++ past)) (english_past (e ∷ (later ++ past))) x y g.e_keep here there ne ((whole_en (later ++ past) sp.0).all y there) ((whole_en (e ∷ (later ++ past)) sp).all y (omega arith))
+      same_before (next_strand (later ++ past)) (english_past (later ++ past)) (english_past (e ∷ (later ++ past))) x y g.e_keep here there ne
+      ((whole_en (later ++ past) sp.0).all y there) ((whole_en (e ∷ (later ++ past)) sp).all y (omega arith))
       ∙ english_later later past sp.0 lx ly
 
-  hebrew_later : (later past : List Event) → IsSoundPast (later ++ past) → x < next_strand past → y < next_strand past → stands_before x y (hebrew_past (later ++ past)) ≡ stands_before x y (hebrew_past past)
+  hebrew_later : (later past : List Event) → IsSoundPast (later ++ past) → x < next_strand past → y < next_strand past
+      → stands_before x y (hebrew_past (later ++ past)) ≡ stands_before x y (hebrew_past past)
   hebrew_later [] past sp lx ly = refl
   hebrew_later (e ∷ later) past sp lx ly =
       let more = strands_more later past in
       let g = grows_next (later ++ past) sp.0 e.task e.strand e.action sp.1 in
       let here : x < next_strand (later ++ past) = omega arith in
       let there : y < next_strand (later ++ past) = omega arith in
-      same_before (next_strand (later ++ past)) (hebrew_past (later ++ past)) (hebrew_past (e ∷ (later ++ past))) x y g.h_keep here there ne ((whole_he (later ++ past) sp.0).all y there) ((whole_he (e ∷ (later ++ past)) sp).all y (omega arith))
+      same_before (next_strand (later ++ past)) (hebrew_past (later ++ past)) (hebrew_past (e ∷ (later ++ past))) x y g.h_keep here there ne
+      ((whole_he (later ++ past) sp.0).all y there) ((whole_he (e ∷ (later ++ past)) sp).all y (omega arith))
       ∙ hebrew_later later past sp.0 lx ly
 
 pub orders_stay : OrdersStay

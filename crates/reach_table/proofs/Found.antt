@@ -49,18 +49,20 @@ module _ (bs : List Block) (r : AreBlocks bs) (at n key : ℕ) (before : (b : Bl
           | inr m ↦ (let e = keyed x m in omega (arith, e, lt))
         ]))
 
-    pub with_strands : (one : List Strand) → ((w : Strand) → Among w (flat made) ↔ (Among w (flat (take n (drop at bs))) ⊎ Among w one)) → (w : Strand) → Among w (flat ((take at bs ++ made) ++ drop n (drop at bs))) ↔ Among w (flat bs ++ one)
+    pub with_strands : (one : List Strand) → ((w : Strand) → Among w (flat made) ↔ (Among w (flat (take n (drop at bs))) ⊎ Among w one)) → (w : Strand)
+        → Among w (flat ((take at bs ++ made) ++ drop n (drop at bs))) ↔ Among w (flat bs ++ one)
     with_strands one iff w = (
-      λ a. elim (among_or w (flat (take at bs ++ made)) (flat (drop n (drop at bs))) (subst (λ l. Among w l) (flat_append (take at bs ++ made) (drop n (drop at bs))) a)) [
-        | inr d ↦ among_left w (flat bs) one (of_drop at bs w (of_drop n (drop at bs) w d))
-        | inl l ↦ elim (among_or w (flat (take at bs)) (flat made) (subst (λ l. Among w l) (flat_append (take at bs) made) l)) [
-          | inl t ↦ among_left w (flat bs) one (of_take at bs w t)
-          | inr m ↦ elim ((iff w).0 m) [
-            | inl k ↦ among_left w (flat bs) one (of_drop at bs w (of_take n (drop at bs) w k))
-            | inr o ↦ among_right w (flat bs) one o
-          ]
-        ]
-      ],
+      λ a. elim (among_or w (flat (take at bs ++ made)) (flat (drop n (drop at bs)))
+          (subst (λ l. Among w l) (flat_append (take at bs ++ made) (drop n (drop at bs))) a)) [
+            | inr d ↦ among_left w (flat bs) one (of_drop at bs w (of_drop n (drop at bs) w d))
+            | inl l ↦ elim (among_or w (flat (take at bs)) (flat made) (subst (λ l. Among w l) (flat_append (take at bs) made) l)) [
+              | inl t ↦ among_left w (flat bs) one (of_take at bs w t)
+              | inr m ↦ elim ((iff w).0 m) [
+                | inl k ↦ among_left w (flat bs) one (of_drop at bs w (of_take n (drop at bs) w k))
+                | inr o ↦ among_right w (flat bs) one o
+              ]
+            ]
+          ],
       λ a. subst (λ l. Among w l) (sym (flat_append (take at bs ++ made) (drop n (drop at bs)))) (elim (among_or w (flat bs) one a) [
         | inr o ↦ among_left w (flat (take at bs ++ made)) (flat (drop n (drop at bs))) (inner (inr ((iff w).1 (inr o))))
         | inl b ↦ elim (in_split at bs w b) [
@@ -74,4 +76,5 @@ module _ (bs : List Block) (r : AreBlocks bs) (at n key : ℕ) (before : (b : Bl
     )
       where
         inner : Among w (flat (take at bs)) ⊎ Among w (flat made) → Among w (flat (take at bs ++ made))
-        inner s = subst (λ l. Among w l) (sym (flat_append (take at bs) made)) (elim s [ inl t ↦ among_left w (flat (take at bs)) (flat made) t | inr m ↦ among_right w (flat (take at bs)) (flat made) m ])
+        inner s = subst (λ l. Among w l) (sym (flat_append (take at bs) made))
+            (elim s [ inl t ↦ among_left w (flat (take at bs)) (flat made) t | inr m ↦ among_right w (flat (take at bs)) (flat made) m ])

@@ -57,16 +57,19 @@ module _ (past : List Event) (own : ℕ) (xs : List ℕ) where
       absurd (true≢false (sym c.1 ∙ t.top k.0 g.0 (is_eq _ _ c.0))))))))
 
 -- the same strands in another list
-pub top_same : (past : List Event) (own : ℕ) (xs ys : List ℕ) → ((z : ℕ) → Among z xs → Among z ys) → ((z : ℕ) → Among z ys → Among z xs) → (x : ℕ) → IsTop past own xs x → IsTop past own ys x
+pub top_same : (past : List Event) (own : ℕ) (xs ys : List ℕ) → ((z : ℕ) → Among z xs → Among z ys) → ((z : ℕ) → Among z ys → Among z xs) → (x : ℕ)
+    → IsTop past own xs x → IsTop past own ys x
 top_same past own xs ys on back x t = record { among = on x t.among; foreign = t.foreign; top = λ y a h. t.top y (back y a) h }
 
-pub max_same : (past : List Event) (own : ℕ) (xs ys : List ℕ) → ((z : ℕ) → Among z xs → Among z ys) → ((z : ℕ) → Among z ys → Among z xs) → (x : ℕ) → Among x (maximal past own xs) ↔ Among x (maximal past own ys)
+pub max_same : (past : List Event) (own : ℕ) (xs ys : List ℕ) → ((z : ℕ) → Among z xs → Among z ys) → ((z : ℕ) → Among z ys → Among z xs) → (x : ℕ)
+    → Among x (maximal past own xs) ↔ Among x (maximal past own ys)
 max_same past own xs ys on back x = (
   λ a. max_of_top past own ys x (top_same past own xs ys on back x (top_of_max past own xs x a)),
   λ a. max_of_top past own xs x (top_same past own ys xs back on x (top_of_max past own ys x a)),
 )
 
-module _ (past : List Event) (sp : IsSoundPast past) (own : ℕ) (xs ys : List ℕ) (lx : (z : ℕ) → Among z xs → z < next_strand past) (ly : (z : ℕ) → Among z ys → z < next_strand past) where
+module _ (past : List Event) (sp : IsSoundPast past) (own : ℕ) (xs ys : List ℕ) (lx : (z : ℕ) → Among z xs → z < next_strand past)
+    (ly : (z : ℕ) → Among z ys → z < next_strand past) where
   low : (z : ℕ) → Among z (xs ++ ys) → z < next_strand past
   low z a = elim (among_or z xs ys a) [ inl l ↦ lx z l | inr r ↦ ly z r ]
 
@@ -78,7 +81,8 @@ module _ (past : List Event) (sp : IsSoundPast past) (own : ℕ) (xs ys : List �
   apart x y p e = not_before_self past sp x (subst (λ z. precedes_past past x z ≡ true) (sym e) p)
 
   -- a strand that precedes one of the list precedes one of those kept
-  passed : (x y : ℕ) → x < next_strand past → home_of past y ≢ own → Among y xs → home_of past y ≡ home_of past x → precedes_past past x y ≡ true → (m : ℕ) × Among m (maximal past own xs) × (home_of past m ≡ home_of past x) × (precedes_past past x m ≡ true)
+  passed : (x y : ℕ) → x < next_strand past → home_of past y ≢ own → Among y xs → home_of past y ≡ home_of past x → precedes_past past x y ≡ true
+      → (m : ℕ) × Among m (maximal past own xs) × (home_of past m ≡ home_of past x) × (precedes_past past x m ≡ true)
   passed x y l ne a h p =
       let c = red past sp own xs (not_before_self past sp) lx y ne (y, a, refl, far_refl (inner_layers past) y) in
       let f : Far (inner_layers past) x y = far_of_precedes past sp x y l (lx y a) (sym h) (apart x y p) p in
@@ -91,7 +95,8 @@ module _ (past : List Event) (sp : IsSoundPast past) (own : ℕ) (xs ys : List �
   -- keeping again, with more strands, keeps what keeping at once does
   pub again : (x : ℕ) → IsTop past own (maximal past own xs ++ ys) x → IsTop past own (xs ++ ys) x
   again x t =
-      let here : Among x (xs ++ ys) = elim (among_or x (maximal past own xs) ys t.among) [ inl l ↦ among_left x xs ys (less x l) | inr r ↦ among_right x xs ys r ] in
+      let here : Among x (xs ++ ys) =
+      elim (among_or x (maximal past own xs) ys t.among) [ inl l ↦ among_left x xs ys (less x l) | inr r ↦ among_right x xs ys r ] in
       record {
         among = here;
         foreign = t.foreign;
@@ -107,7 +112,8 @@ module _ (past : List Event) (sp : IsSoundPast past) (own : ℕ) (xs ys : List �
   at_once x t =
       record {
         among = elim (among_or x xs ys t.among) [
-          | inl l ↦ among_left x (maximal past own xs) ys (max_of_top past own xs x (record { among = l; foreign = t.foreign; top = λ y a h. t.top y (among_left y xs ys a) h }))
+          | inl l ↦ among_left x (maximal past own xs) ys
+              (max_of_top past own xs x (record { among = l; foreign = t.foreign; top = λ y a h. t.top y (among_left y xs ys a) h }))
           | inr r ↦ among_right x (maximal past own xs) ys r
         ];
         foreign = t.foreign;

@@ -36,7 +36,8 @@ pub of_drop : (n : ℕ) (bs : List Block) (w : Strand) → Among w (flat (drop n
 of_drop n bs w a = subst (λ l. Among w l) (sym (flat_split n bs)) (among_right w (flat (take n bs)) (flat (drop n bs)) a)
 
 -- the block of a strand is still to come
-pub next_of : (one other : List Block) (last : Option Strand) → AreBlocks one → AreBlocks other → (w : Strand) → Among w (together (flat one) (flat other) last) → IsNext one other last (key_of w)
+pub next_of : (one other : List Block) (last : Option Strand) → AreBlocks one → AreBlocks other → (w : Strand)
+    → Among w (together (flat one) (flat other) last) → IsNext one other last (key_of w)
 next_of one other last r s w a = elim (parts (flat one) (flat other) last w a) [
   | inl x ↦ (let k = key_in one r w x in inl (inl (k.0, k.1, sym k.2)))
   | inr (inl y) ↦ (let k = key_in other s w y in inl (inr (k.0, k.1, sym k.2)))
@@ -54,7 +55,8 @@ pub record Joins (lists : Lists) (own : ℕ) (whole : List Strand) (all one othe
   pub one_blocks : AreBlocks one
   pub other_blocks : AreBlocks other
 
-pub joins_none : (lists : Lists) (own : ℕ) (one other : List Block) (last : Option Strand) → AreBlocks one → AreBlocks other → Joins lists own (together (flat one) (flat other) last) [] one other last
+pub joins_none : (lists : Lists) (own : ℕ) (one other : List Block) (last : Option Strand) → AreBlocks one → AreBlocks other
+    → Joins lists own (together (flat one) (flat other) last) [] one other last
 joins_none lists own one other last r s =
     record {
       passed = [];
@@ -68,7 +70,8 @@ joins_none lists own one other last r s =
     }
 
 -- at the end
-pub joins_all : (lists : Lists) (own : ℕ) (whole : List Strand) (all one other : List Block) (last : Option Strand) → Joins lists own whole all one other last → IsLeast (IsNext one other last) None → (w : Strand) → Among w (flat all) ↔ IsGreatest lists own whole w
+pub joins_all : (lists : Lists) (own : ℕ) (whole : List Strand) (all one other : List Block) (last : Option Strand) → Joins lists own whole all one other last
+    → IsLeast (IsNext one other last) None → (w : Strand) → Among w (flat all) ↔ IsGreatest lists own whole w
 joins_all lists own whole all one other last j none w =
     let same : (x : Strand) → Among x j.passed ↔ Among x whole = (λ x. (
       λ a. (j.whole_is x).1 (inl a),
@@ -114,8 +117,18 @@ module _ (lists : Lists) (own : ℕ) (whole : List Strand) (all one other : List
 
   split : (w : Strand) → Among w (together (flat one) (flat other) last) → Among w piece ⊎ Among w left_over
   split w a = elim (parts (flat one) (flat other) last w a) [
-    | inl x ↦ elim (in_split first one w x) [ inl p ↦ inl (of_parts _ (flat (take second other)) here w (inl p)) | inr q ↦ inr (of_parts _ (flat (drop second other)) there w (inl q)) ]
-    | inr (inl y) ↦ elim (in_split second other w y) [ inl p ↦ inl (of_parts (flat (take first one)) _ here w (inr (inl p))) | inr q ↦ inr (of_parts (flat (drop first one)) _ there w (inr (inl q))) ]
+    | inl x ↦
+        elim (in_split first one w x) [
+          | inl p ↦ inl (of_parts _ (flat (take second other)) here w (inl p))
+          | inr q ↦
+              inr (of_parts _ (flat (drop second other)) there w (inl q))
+        ]
+    | inr (inl y) ↦
+        elim (in_split second other w y) [
+          | inl p ↦ inl (of_parts (flat (take first one)) _ here w (inr (inl p)))
+          | inr q ↦
+              inr (of_parts (flat (drop first one)) _ there w (inr (inl q)))
+        ]
     | inr (inr l) ↦ elim (same_or_not (key_of w) key) [
       | inl e ↦ inl (of_parts (flat (take first one)) (flat (take second other)) here w (inr (inr ((is_here w).1 (l, e)))))
       | inr ne ↦ inr (of_parts (flat (drop first one)) (flat (drop second other)) there w (inr (inr ((is_there w).1 (l, ne)))))
@@ -193,11 +206,15 @@ taken_one bs zero key has rest = let k = rest has.0 has.1 in let e = has.2 in ab
 taken_one bs (suc n) key has rest = omega arith
 
 -- all strands that are put together are known
-pub known_parts : (known : ℕ) (one other : List Strand) (last : Option Strand) → ((w : Strand) → Among w one → w.number < known) → ((w : Strand) → Among w other → w.number < known) → ((w : Strand) → Among w (listed last) → w.number < known) → (w : Strand) → Among w (together one other last) → w.number < known
+pub known_parts : (known : ℕ) (one other : List Strand) (last : Option Strand) → ((w : Strand) → Among w one → w.number < known)
+    → ((w : Strand) → Among w other → w.number < known) → ((w : Strand) → Among w (listed last) → w.number < known) → (w : Strand)
+    → Among w (together one other last) → w.number < known
 known_parts known one other last f g h w a = elim (parts one other last w a) [ inl x ↦ f w x | inr (inl y) ↦ g w y | inr (inr l) ↦ h w l ]
 
 -- all strands that are put together are of one block
-pub keyed_parts : (key : ℕ) (one other : List Block) (last : Option Strand) → AreBlocks one → AreBlocks other → ((b : Block) → Among b one → b.key ≡ key) → ((b : Block) → Among b other → b.key ≡ key) → ((w : Strand) → Among w (listed last) → key_of w ≡ key) → (w : Strand) → Among w (together (flat one) (flat other) last) → key_of w ≡ key
+pub keyed_parts : (key : ℕ) (one other : List Block) (last : Option Strand) → AreBlocks one → AreBlocks other → ((b : Block) → Among b one → b.key ≡ key)
+    → ((b : Block) → Among b other → b.key ≡ key) → ((w : Strand) → Among w (listed last) → key_of w ≡ key) → (w : Strand)
+    → Among w (together (flat one) (flat other) last) → key_of w ≡ key
 keyed_parts key one other last r s f g h w a = elim (parts (flat one) (flat other) last w a) [
   | inl x ↦ (let k = key_in one r w x in k.2 ∙ f k.0 k.1)
   | inr (inl y) ↦ (let k = key_in other s w y in k.2 ∙ g k.0 k.1)

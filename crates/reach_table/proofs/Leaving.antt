@@ -1,5 +1,6 @@
 -- The strands of a rising list that are left, found one after the other.
-use Rattle.std.proofs.Common.{arith, ap, ◌≡◌, ◌≢◌, ℕ, ◌+◌, ◌<◌, ◌≤◌, Bool, true, false, not, true≢false, List, [], ◌∷◌, ◌++◌, length, get_or, take, drop, inl, inr, subst, sym, refl, ◌∙◌}
+use Rattle.std.proofs.Common.{arith, ap, ◌≡◌, ◌≢◌, ℕ, ◌+◌, ◌<◌, ◌≤◌, Bool, true, false, not, true≢false, List}
+use Rattle.std.proofs.Common.{[], ◌∷◌, ◌++◌, length, get_or, take, drop, inl, inr, subst, sym, refl, ◌∙◌}
 use Rattle.std.specs.Prelude.{◌↔◌}
 use Rattle.std.proofs.lemmas.List.{append_assoc, append-nil, drop_more, drop_all, take_all}
 use Rattle.order_list.specs.Sides.{Lists}
@@ -13,7 +14,8 @@ use Rattle.reach_table.proofs.Rising.{rising_out}
 use Rattle.reach_table.proofs.Greatest.{false_if}
 
 -- a further strand that is not preceded
-pub none_more : (lists : Lists) (at : Strand) (ws : List Strand) (i : ℕ) (d : Strand) → i < length ws → (PrecedesOne lists at (take i ws) → ⊥) → ((get_or ws i d).number ≢ at.number → precedes_in lists at.number (get_or ws i d).number ≡ true → ⊥) → PrecedesOne lists at (take (i + 1) ws) → ⊥
+pub none_more : (lists : Lists) (at : Strand) (ws : List Strand) (i : ℕ) (d : Strand) → i < length ws → (PrecedesOne lists at (take i ws) → ⊥)
+    → ((get_or ws i d).number ≢ at.number → precedes_in lists at.number (get_or ws i d).number ≡ true → ⊥) → PrecedesOne lists at (take (i + 1) ws) → ⊥
 none_more lists at ws i d lt none off p =
     elim (in_more ws i d lt p.0 p.1) [
       | inl a ↦ none (p.0, a, p.2, p.3)
@@ -24,7 +26,9 @@ none_more lists at ws i d lt none off p =
     ]
 
 -- a strand that is not of future `own` is greatest where those before it are of lower futures, and those behind it of higher ones
-pub alone_greatest : (lists : Lists) (own : ℕ) (ws : List Strand) (i : ℕ) (d : Strand) → i < length ws → (get_or ws i d).future ≢ own → ((w : Strand) → Among w (take i ws) → w.future < (get_or ws i d).future) → ((w : Strand) → Among w (drop (i + 1) ws) → (get_or ws i d).future < w.future) → IsGreatest lists own ws (get_or ws i d)
+pub alone_greatest : (lists : Lists) (own : ℕ) (ws : List Strand) (i : ℕ) (d : Strand) → i < length ws → (get_or ws i d).future ≢ own
+    → ((w : Strand) → Among w (take i ws) → w.future < (get_or ws i d).future)
+    → ((w : Strand) → Among w (drop (i + 1) ws) → (get_or ws i d).future < w.future) → IsGreatest lists own ws (get_or ws i d)
 alone_greatest lists own ws i d lt ne before behind =
     let at = get_or ws i d in
     record {
@@ -40,7 +44,9 @@ alone_greatest lists own ws i d lt ne before behind =
     }
 
 -- a strand that is not of future `own` is greatest where it precedes none of its future
-pub greatest_if : (lists : Lists) (own : ℕ) (at : Strand) (ws group : List Strand) (answer : Bool) → Among at ws → at.future ≢ own → ((w : Strand) → Among w group ↔ (Among w ws × (w.future ≡ at.future))) → (answer ≡ true) ↔ PrecedesOne lists at group → (not answer ≡ true) ↔ IsGreatest lists own ws at
+pub greatest_if : (lists : Lists) (own : ℕ) (at : Strand) (ws group : List Strand) (answer : Bool) → Among at ws → at.future ≢ own
+    → ((w : Strand) → Among w group ↔ (Among w ws × (w.future ≡ at.future))) → (answer ≡ true) ↔ PrecedesOne lists at group → (not answer ≡ true)
+    ↔ IsGreatest lists own ws at
 greatest_if lists own at ws group answer here ne mine iff = (to answer iff, back answer iff)
   where
     to : (b : Bool) → (b ≡ true) ↔ PrecedesOne lists at group → not b ≡ true → IsGreatest lists own ws at
@@ -74,7 +80,13 @@ module _ (lists : Lists) (own : ℕ) (ws left new : List Strand) (i : ℕ) (d : 
       let P : List Strand → Type 0 = λ n. Leaves lists own ws (i + 1) n in
       subst P (sym is) (record {
         rising = subst IsRising (sym (append_assoc left (get_or ws i d ∷ []) (drop (i + 1) ws))) here;
-        to = λ w a. elim (among_or w left (get_or ws i d ∷ []) a) [ inl k ↦ l.to w k | inr (inl e) ↦ subst (λ z. IsGreatest lists own ws z) e g | inr (inr k) ↦ absurd k ];
+        to =
+            λ w a. elim (among_or w left (get_or ws i d ∷ []) a) [
+              | inl k ↦ l.to w k
+              | inr (inl e) ↦ subst (λ z. IsGreatest lists own ws z) e g
+              | inr (inr k) ↦
+                  absurd k
+            ];
         back = λ w a h. elim (in_more ws i d lt w a) [ inl k ↦ among_left w left _ (l.back w k h) | inr e ↦ among_right w left _ (inl e) ];
       })
 
@@ -88,7 +100,8 @@ module _ (lists : Lists) (own : ℕ) (ws left new : List Strand) (i : ℕ) (d : 
       })
 
 -- at the end of the list
-pub leaves_all : (lists : Lists) (own : ℕ) (ws left : List Strand) (i : ℕ) → length ws ≤ i → Leaves lists own ws i left → IsRising left × ((w : Strand) → Among w left ↔ IsGreatest lists own ws w)
+pub leaves_all : (lists : Lists) (own : ℕ) (ws left : List Strand) (i : ℕ) → length ws ≤ i → Leaves lists own ws i left
+    → IsRising left × ((w : Strand) → Among w left ↔ IsGreatest lists own ws w)
 leaves_all lists own ws left i le l =
     let P : List Strand → Type 0 = λ r. IsRising (left ++ r) in (
       subst IsRising (append-nil left) (subst P (drop_all i ws le) l.rising),

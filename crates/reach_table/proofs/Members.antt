@@ -1,5 +1,6 @@
 -- Members of lists.
-use Rattle.std.proofs.Common.{◌≡◌, ℕ, zero, suc, ◌+◌, ◌<◌, Bool, true, false, ◌&&◌, ◌==◌, ◌≢◌, true≢false, List, [], ◌∷◌, length, get_or, take, drop, map, flat_map, ◌⊎◌, inl, inr, subst, ap, sym, refl, ◌∙◌, arith}
+use Rattle.std.proofs.Common.{◌≡◌, ℕ, zero, suc, ◌+◌, ◌<◌, Bool, true, false, ◌&&◌, ◌==◌, ◌≢◌, true≢false, List, [], ◌∷◌}
+use Rattle.std.proofs.Common.{length, get_or, take, drop, map, flat_map, ◌⊎◌, inl, inr, subst, ap, sym, refl, ◌∙◌, arith}
 use Rattle.std.proofs.lemmas.List.{take-append-drop, take_more}
 use Rattle.fut_base.specs.Dag.{Among}
 use Rattle.strand_laws.proofs.Places.{by_eq, among_or, among_left, among_right}
@@ -33,7 +34,8 @@ from_drop i xs w h = subst (λ l. Among w l) (take-append-drop i xs) (among_righ
 
 -- one more item of a beginning
 pub in_more : {X : Type 0} → (xs : List X) (i : ℕ) (d : X) → i < length xs → (w : X) → Among w (take (i + 1) xs) → Among w (take i xs) ⊎ (get_or xs i d ≡ w)
-in_more xs i d lt w h = elim (among_or w (take i xs) _ (subst (λ l. Among w l) (take_more xs i d lt) h)) [ inl a ↦ inl a | inr (inl e) ↦ inr e | inr (inr b) ↦ absurd b ]
+in_more xs i d lt w h =
+    elim (among_or w (take i xs) _ (subst (λ l. Among w l) (take_more xs i d lt) h)) [ inl a ↦ inl a | inr (inl e) ↦ inr e | inr (inr b) ↦ absurd b ]
 
 pub flat_in : (f : ℕ → List ℕ) (x l : ℕ) (xs : List ℕ) → Among l xs → Among x (f l) → Among x (flat_map f xs)
 flat_in f x l [] h a = absurd h
@@ -80,7 +82,8 @@ unequal_strands x y b is no_b e =
     true≢false (sym h ∙ sym is ∙ no_b)
 
 -- one more strand that is known
-pub known_more : (known : ℕ) (ws : List Strand) (i : ℕ) (d : Strand) → i < length ws → ((w : Strand) → Among w (take i ws) → w.number < known) → (get_or ws i d).number < known → (w : Strand) → Among w (take (i + 1) ws) → w.number < known
+pub known_more : (known : ℕ) (ws : List Strand) (i : ℕ) (d : Strand) → i < length ws → ((w : Strand) → Among w (take i ws) → w.number < known)
+    → (get_or ws i d).number < known → (w : Strand) → Among w (take (i + 1) ws) → w.number < known
 known_more known ws i d lt all here w a =
     let P : Strand → Type 0 = λ z. z.number < known in
     elim (in_more ws i d lt w a) [ inl l ↦ all w l | inr e ↦ subst P e here ]

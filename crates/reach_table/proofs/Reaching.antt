@@ -1,5 +1,6 @@
 -- What an answer tells of paths.
-use Rattle.std.proofs.Common.{◌≡◌, ◌≢◌, ℕ, ◌+◌, ◌<◌, Bool, true, false, ◌&&◌, List, [], ◌∷◌, ◌++◌, length, get_or, take, reverse, ◌⊎◌, inl, inr, subst, ap, sym, refl, ◌∙◌, true≢false}
+use Rattle.std.proofs.Common.{◌≡◌, ◌≢◌, ℕ, ◌+◌, ◌<◌, Bool, true, false, ◌&&◌, List, [], ◌∷◌, ◌++◌, length}
+use Rattle.std.proofs.Common.{get_or, take, reverse, ◌⊎◌, inl, inr, subst, ap, sym, refl, ◌∙◌, true≢false}
 use Rattle.std.specs.Prelude.{◌↔◌}
 use Rattle.std.proofs.lemmas.List.{append_assoc}
 use Rattle.order_list.specs.declared.judge.Sides.{Sides}
@@ -60,7 +61,9 @@ pub one_of_each : OneOfEach
 one_of_each s v table sound lv h w x a b e =
     let hw = h.homes w a in
     let hx = h.homes x b in
-    let same : w.number ≡ x.number = table_has_one (reverse s) sound v w.number x.number lv ((h.same w.number).0 (numbered w table a)) ((h.same x.number).0 (numbered x table b)) (sym hw.future_is ∙ e ∙ hx.future_is) in
+    let same : w.number ≡ x.number =
+    table_has_one (reverse s) sound v w.number x.number lv ((h.same w.number).0 (numbered w table a)) ((h.same x.number).0 (numbered x table b))
+    (sym hw.future_is ∙ e ∙ hx.future_is) in
     same_strand w x same e
 
 module _ (s : List Event) (known : ℕ) (english hebrew : List ℕ) (orders : OrdersAgree s known english hebrew) where
@@ -79,7 +82,8 @@ module _ (s : List Event) (known : ℕ) (english hebrew : List ℕ) (orders : Or
   ]
 
 -- inside one future
-pub tells_inside : (table : List Strand) (u v : Strand) (known : ℕ) (english hebrew : List ℕ) (answer : Bool) → u.future ≡ v.future → u.number < known → v.number < known → (answer ≡ true) ↔ IsOrPrecedes english hebrew u.number v.number → TellsReach table u v known english hebrew answer
+pub tells_inside : (table : List Strand) (u v : Strand) (known : ℕ) (english hebrew : List ℕ) (answer : Bool) → u.future ≡ v.future → u.number < known
+    → v.number < known → (answer ≡ true) ↔ IsOrPrecedes english hebrew u.number v.number → TellsReach table u v known english hebrew answer
 tells_inside table u v known english hebrew answer e ku kv iff s sound us vs has orders =
     let law = try_means_path (reverse s) sound u.number v.number (strands_of s u v us vs) in
     let home : home_of (reverse s) u.number ≡ home_of (reverse s) v.number = sym us.future_is ∙ e ∙ vs.future_is in
@@ -93,7 +97,9 @@ tells_inside table u v known english hebrew answer e ku kv iff s sound us vs has
     )
 
 -- from another future
-pub tells_across : (table group : List Strand) (u v : Strand) (known : ℕ) (english hebrew : List ℕ) (answer : Bool) → u.future ≢ v.future → u.number < known → AllKnown known table → ((w : Strand) → Among w group ↔ (Among w table × (w.future ≡ u.future))) → (answer ≡ true) ↔ ReachesOne english hebrew u.number group → TellsReach table u v known english hebrew answer
+pub tells_across : (table group : List Strand) (u v : Strand) (known : ℕ) (english hebrew : List ℕ) (answer : Bool) → u.future ≢ v.future → u.number < known
+    → AllKnown known table → ((w : Strand) → Among w group ↔ (Among w table × (w.future ≡ u.future))) → (answer ≡ true)
+    ↔ ReachesOne english hebrew u.number group → TellsReach table u v known english hebrew answer
 tells_across table group u v known english hebrew answer ne ku all mine iff s sound us vs has orders =
     let law = table_tells s u v table sound us vs ne has in
     let hu : IsKnownOf s known u.number = record { less = ku; there = us.there } in
@@ -108,7 +114,8 @@ tells_across table group u v known english hebrew answer ne ku all mine iff s so
     )
 
 -- what the sides of two different strands tell
-pub told : (sides : Sides) (a b x y : ℕ) (english hebrew : List ℕ) (answer : Bool) → a ≡ x → b ≡ y → x ≢ y → AreSides sides a b english hebrew → (answer ≡ true) ↔ ((sides.english ≡ true) × (sides.hebrew ≡ true)) → (answer ≡ true) ↔ IsOrPrecedes english hebrew x y
+pub told : (sides : Sides) (a b x y : ℕ) (english hebrew : List ℕ) (answer : Bool) → a ≡ x → b ≡ y → x ≢ y → AreSides sides a b english hebrew
+    → (answer ≡ true) ↔ ((sides.english ≡ true) × (sides.hebrew ≡ true)) → (answer ≡ true) ↔ IsOrPrecedes english hebrew x y
 told sides a b x y english hebrew answer ax byy ne are both =
     let first : sides.english ≡ stands_before x y english = are.first ∙ ap (λ z. stands_before z b english) ax ∙ ap (λ z. stands_before x z english) byy in
     let second : sides.hebrew ≡ stands_before x y hebrew = are.second ∙ ap (λ z. stands_before z b hebrew) ax ∙ ap (λ z. stands_before x z hebrew) byy in (
@@ -133,7 +140,9 @@ moved_on g {r = r} moved before m =
     }
 
 -- a further strand that is not reached
-pub one_more : (english hebrew english' hebrew' : List ℕ) (x : ℕ) (ws : List Strand) (i : ℕ) (d : Strand) (answer : Bool) → i < length ws → english' ≡ english → hebrew' ≡ hebrew → (ReachesOne english hebrew x (take i ws) → ⊥) → (answer ≡ true) ↔ IsOrPrecedes english' hebrew' x (get_or ws i d).number → answer ≡ false → ReachesOne english hebrew x (take (i + 1) ws) → ⊥
+pub one_more : (english hebrew english' hebrew' : List ℕ) (x : ℕ) (ws : List Strand) (i : ℕ) (d : Strand) (answer : Bool) → i < length ws → english' ≡ english
+    → hebrew' ≡ hebrew → (ReachesOne english hebrew x (take i ws) → ⊥) → (answer ≡ true) ↔ IsOrPrecedes english' hebrew' x (get_or ws i d).number
+    → answer ≡ false → ReachesOne english hebrew x (take (i + 1) ws) → ⊥
 one_more english hebrew english' hebrew' x ws i d answer lt en he none iff off r =
     elim (in_more ws i d lt r.0 r.1) [
       | inl a ↦ none (r.0, a, r.2)

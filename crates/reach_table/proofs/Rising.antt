@@ -56,7 +56,8 @@ rising_out (x ∷ xs) y ys r =
     (λ z a. r.0 z (elim (among_or z xs ys a) [ inl l ↦ among_left z xs (y ∷ ys) l | inr k ↦ among_right z xs (y ∷ ys) (inr k) ]), rising_out xs y ys r.1)
 
 -- one item is put in
-pub rising_in : (xs : List Strand) (x : Strand) (ys : List Strand) → IsRising (xs ++ ys) → IsRising (xs ++ x ∷ []) → ((y : Strand) → Among y ys → IsBelow x y) → IsRising (xs ++ x ∷ ys)
+pub rising_in : (xs : List Strand) (x : Strand) (ys : List Strand) → IsRising (xs ++ ys) → IsRising (xs ++ x ∷ []) → ((y : Strand) → Among y ys → IsBelow x y)
+    → IsRising (xs ++ x ∷ ys)
 rising_in [] x ys r one up = (up, r)
 rising_in (z ∷ xs) x ys r one up = (
   λ y a. elim (among_or y xs (x ∷ ys) a) [
@@ -74,7 +75,8 @@ pub rising_drop : (i : ℕ) (xs : List Strand) → IsRising xs → IsRising (dro
 rising_drop i xs r = rising_right (take i xs) (drop i xs) (subst IsRising (sym (take-append-drop i xs)) r)
 
 -- a strand of a lesser future, and those before it
-pub before_more : (xs : List Strand) (i : ℕ) (d : Strand) (bound : ℕ) → IsRising xs → i < length xs → (get_or xs i d).future < bound → (w : Strand) → Among w (take (suc i) xs) → w.future < bound
+pub before_more : (xs : List Strand) (i : ℕ) (d : Strand) (bound : ℕ) → IsRising xs → i < length xs → (get_or xs i d).future < bound → (w : Strand)
+    → Among w (take (suc i) xs) → w.future < bound
 before_more [] i d bound r lt h w a = absurd (omega arith)
 before_more (x ∷ xs) zero d bound r lt h w (inl e) = subst (λ (z : Strand). z.future < bound) e h
 before_more (x ∷ xs) zero d bound r lt h w (inr a) = absurd a
@@ -84,14 +86,17 @@ before_more (x ∷ xs) (suc i) d bound r lt h w (inl e) =
 before_more (x ∷ xs) (suc i) d bound r lt h w (inr a) = before_more xs i d bound r.1 (omega arith) h w a
 
 -- a strand of another future, and those after it
-pub after_more : (xs : List Strand) (i : ℕ) (d : Strand) (bound : ℕ) → IsRising xs → i < length xs → bound ≤ (get_or xs i d).future → (w : Strand) → Among w (drop i xs) → bound ≤ w.future
+pub after_more : (xs : List Strand) (i : ℕ) (d : Strand) (bound : ℕ) → IsRising xs → i < length xs → bound ≤ (get_or xs i d).future → (w : Strand)
+    → Among w (drop i xs) → bound ≤ w.future
 after_more [] i d bound r lt h w a = absurd (omega arith)
 after_more (x ∷ xs) zero d bound r lt h w (inl e) = subst (λ (z : Strand). bound ≤ z.future) e h
 after_more (x ∷ xs) zero d bound r lt h w (inr a) = let k = below_future x w (r.0 w a) in omega (arith, k, h)
 after_more (x ∷ xs) (suc i) d bound r lt h w a = after_more xs i d bound r.1 (omega arith) h w a
 
 -- what lies between two places that a future has
-pub between : (xs rest : List Strand) (low count f : ℕ) → rest ≡ drop low xs → ((w : Strand) → Among w (take low xs) → w.future < f) → ((w : Strand) → Among w (drop low xs) → f ≤ w.future) → ((w : Strand) → Among w (take count rest) → w.future < f + 1) → ((w : Strand) → Among w (drop count rest) → f + 1 ≤ w.future) → (w : Strand) → Among w (take count rest) ↔ (Among w xs × (w.future ≡ f))
+pub between : (xs rest : List Strand) (low count f : ℕ) → rest ≡ drop low xs → ((w : Strand) → Among w (take low xs) → w.future < f)
+    → ((w : Strand) → Among w (drop low xs) → f ≤ w.future) → ((w : Strand) → Among w (take count rest) → w.future < f + 1)
+    → ((w : Strand) → Among w (drop count rest) → f + 1 ≤ w.future) → (w : Strand) → Among w (take count rest) ↔ (Among w xs × (w.future ≡ f))
 between xs rest low count f is before after until past w = (
   λ a. (
       let d : Among w (drop low xs) = subst (λ l. Among w l) is (from_take count rest w a) in

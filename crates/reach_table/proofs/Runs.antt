@@ -33,7 +33,8 @@ part_rest (x ∷ xs) (suc a) (suc i) le =
     ap (λ n. take n (drop a xs) ++ drop i xs) e ∙ part_rest xs a i (omega (arith, le))
 
 -- what is pending between two places, behind what has been taken
-pub pending_more : {X : Type 0} → (all xs : List X) (a i : ℕ) (d : X) → a ≤ i → i < length xs → all ++ part a (i + 1) xs ≡ (all ++ part a i xs) ++ get_or xs i d ∷ []
+pub pending_more : {X : Type 0} → (all xs : List X) (a i : ℕ) (d : X) → a ≤ i → i < length xs
+    → all ++ part a (i + 1) xs ≡ (all ++ part a i xs) ++ get_or xs i d ∷ []
 pending_more all xs a i d le lt = ap (λ l. all ++ l) (part_more xs a i d le lt) ∙ sym (append_assoc all (part a i xs) (get_or xs i d ∷ []))
 
 pub pending_none : {X : Type 0} → (all xs : List X) (a : ℕ) → all ++ part a a xs ≡ all

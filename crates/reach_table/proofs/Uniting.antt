@@ -37,7 +37,8 @@ tail_of : (all ys : List Strand) → IsRising (all ++ ys) → IsRising ys
 tail_of [] ys r = r
 tail_of (z ∷ zs) ys r = tail_of zs ys r.1
 
-pub take_one : (one other all : List Strand) (x y : Strand) (ra rb : List Strand) → IsBelow x y → Unites one other all (x ∷ ra) (y ∷ rb) → Unites one other (all ++ x ∷ []) ra (y ∷ rb)
+pub take_one : (one other all : List Strand) (x y : Strand) (ra rb : List Strand) → IsBelow x y → Unites one other all (x ∷ ra) (y ∷ rb)
+    → Unites one other (all ++ x ∷ []) ra (y ∷ rb)
 take_one one other all x y ra rb b u =
     record {
       left = turned all x ra u.left;
@@ -45,7 +46,13 @@ take_one one other all x y ra rb b u =
       all_of = λ w a. elim (among_or w all (x ∷ []) a) [ inl l ↦ u.all_of w l | inr (inl e) ↦ inl (u.one_of w (inl e)) | inr (inr k) ↦ absurd k ];
       one_of = λ w a. u.one_of w (inr a);
       other_of = u.other_of;
-      one_in = λ w a. elim (u.one_in w a) [ inl l ↦ inl (among_left w all (x ∷ []) l) | inr (inl e) ↦ inl (among_right w all (x ∷ []) (inl e)) | inr (inr k) ↦ inr k ];
+      one_in =
+          λ w a. elim (u.one_in w a) [
+            | inl l ↦ inl (among_left w all (x ∷ []) l)
+            | inr (inl e) ↦ inl (among_right w all (x ∷ []) (inl e))
+            | inr (inr k) ↦
+                inr k
+          ];
       other_in = λ w a. elim (u.other_in w a) [ inl l ↦ inl (among_left w all (x ∷ []) l) | inr k ↦ inr k ];
     }
 
@@ -61,11 +68,13 @@ swapped one other all ra rb u =
       other_in = u.one_in;
     }
 
-pub take_other : (one other all : List Strand) (x y : Strand) (ra rb : List Strand) → IsBelow y x → Unites one other all (x ∷ ra) (y ∷ rb) → Unites one other (all ++ y ∷ []) (x ∷ ra) rb
+pub take_other : (one other all : List Strand) (x y : Strand) (ra rb : List Strand) → IsBelow y x → Unites one other all (x ∷ ra) (y ∷ rb)
+    → Unites one other (all ++ y ∷ []) (x ∷ ra) rb
 take_other one other all x y ra rb b u =
     swapped other one (all ++ y ∷ []) rb (x ∷ ra) (take_one other one all y x rb ra b (swapped one other all (x ∷ ra) (y ∷ rb) u))
 
-pub take_both : (one other all : List Strand) (x y : Strand) (ra rb : List Strand) → x ≡ y → Unites one other all (x ∷ ra) (y ∷ rb) → Unites one other (all ++ x ∷ []) ra rb
+pub take_both : (one other all : List Strand) (x y : Strand) (ra rb : List Strand) → x ≡ y → Unites one other all (x ∷ ra) (y ∷ rb)
+    → Unites one other (all ++ x ∷ []) ra rb
 take_both one other all x y ra rb same u =
     let P : Strand → Type 0 = λ z. IsRising (all ++ z ∷ rb) in
     record {
@@ -74,8 +83,20 @@ take_both one other all x y ra rb same u =
       all_of = λ w a. elim (among_or w all (x ∷ []) a) [ inl l ↦ u.all_of w l | inr (inl e) ↦ inl (u.one_of w (inl e)) | inr (inr k) ↦ absurd k ];
       one_of = λ w a. u.one_of w (inr a);
       other_of = λ w a. u.other_of w (inr a);
-      one_in = λ w a. elim (u.one_in w a) [ inl l ↦ inl (among_left w all (x ∷ []) l) | inr (inl e) ↦ inl (among_right w all (x ∷ []) (inl e)) | inr (inr k) ↦ inr k ];
-      other_in = λ w a. elim (u.other_in w a) [ inl l ↦ inl (among_left w all (x ∷ []) l) | inr (inl e) ↦ inl (among_right w all (x ∷ []) (inl (same_is same e))) | inr (inr k) ↦ inr k ];
+      one_in =
+          λ w a. elim (u.one_in w a) [
+            | inl l ↦ inl (among_left w all (x ∷ []) l)
+            | inr (inl e) ↦ inl (among_right w all (x ∷ []) (inl e))
+            | inr (inr k) ↦
+                inr k
+          ];
+      other_in =
+          λ w a. elim (u.other_in w a) [
+            | inl l ↦ inl (among_left w all (x ∷ []) l)
+            | inr (inl e) ↦
+                inl (among_right w all (x ∷ []) (inl (same_is same e)))
+            | inr (inr k) ↦ inr k
+          ];
     }
   where
     same_is : {w : Strand} → x ≡ y → y ≡ w → x ≡ w
@@ -107,14 +128,17 @@ ends_members one other all ra rb u w = (
 )
 
 -- the heads of what is left
-heads : (one other all : List Strand) (i j : ℕ) (d : Strand) → i < length one → j < length other → Unites one other all (drop i one) (drop j other) → Unites one other all (get_or one i d ∷ drop (i + 1) one) (get_or other j d ∷ drop (j + 1) other)
+heads : (one other all : List Strand) (i j : ℕ) (d : Strand) → i < length one → j < length other → Unites one other all (drop i one) (drop j other)
+    → Unites one other all (get_or one i d ∷ drop (i + 1) one) (get_or other j d ∷ drop (j + 1) other)
 heads one other all i j d li lj u =
     let P : List Strand → Type 0 = λ l. Unites one other all l (drop j other) in
     let Q : List Strand → Type 0 = λ l. Unites one other all (get_or one i d ∷ drop (i + 1) one) l in
     subst Q (drop_more other j d lj) (subst P (drop_more one i d li) u)
 
-module _ (one other all new : List Strand) (i j : ℕ) (d : Strand) (li : i < length one) (lj : j < length other) (u : Unites one other all (drop i one) (drop j other)) where
-  pub step_other : (IsBelow (get_or one i d) (get_or other j d) → ⊥) → get_or one i d ≢ get_or other j d → new ≡ all ++ get_or other j d ∷ [] → Unites one other new (drop i one) (drop (j + 1) other)
+module _ (one other all new : List Strand) (i j : ℕ) (d : Strand) (li : i < length one) (lj : j < length other)
+    (u : Unites one other all (drop i one) (drop j other)) where
+  pub step_other : (IsBelow (get_or one i d) (get_or other j d) → ⊥) → get_or one i d ≢ get_or other j d → new ≡ all ++ get_or other j d ∷ []
+      → Unites one other new (drop i one) (drop (j + 1) other)
   step_other off ne is =
       let k = take_other one other all (get_or one i d) (get_or other j d) _ _ (below_or _ _ off (λ e. ne (sym e))) (heads one other all i j d li lj u) in
       let P : List Strand → Type 0 = λ l. Unites one other (all ++ get_or other j d ∷ []) l (drop (j + 1) other) in

@@ -112,7 +112,9 @@ fn shared_of(
     requires other_in { AllKnown (length lists.now.english.order) other.now }
     requires last_in { AllKnown (length lists.now.english.order) (listed last) }
     ensures same { IfOk result (λ made. IfSome made (λ b. arc_value b ∷ [] ≡ values block.now)) }
-    ensures strands { IfOk result (λ made. IfSome made (λ b. (w : Strand) → Among w (flat (values block.now)) ↔ IsGreatest lists.now own (together (flat (values block.now)) other.now last) w)) }
+    ensures strands { IfOk result
+        (λ made. IfSome made
+        (λ b. (w : Strand) → Among w (flat (values block.now)) ↔ IsGreatest lists.now own (together (flat (values block.now)) other.now last) w)) }
 {
     if !block.is_empty() && is_all(lists, own, &block[0], other, last) {
         return Ok(Some(block[0].clone()?));
@@ -142,7 +144,9 @@ fn joined(
     requires last_keyed { (w : Strand) → Among w (listed last) → key_of w ≡ key }
     ensures blocks { IfOk result (λ made. AreBlocks (values (option_to_list made))) }
     ensures keyed { IfOk result (λ made. (b : Block) → Among b (values (option_to_list made)) → b.key ≡ key) }
-    ensures strands { IfOk result (λ made. (w : Strand) → Among w (flat (values (option_to_list made))) ↔ IsGreatest lists.now own (together (flat (values one.now)) (flat (values other.now)) last) w) }
+    ensures strands { IfOk result
+        (λ made. (w : Strand) → Among w (flat (values (option_to_list made)))
+        ↔ IsGreatest lists.now own (together (flat (values one.now)) (flat (values other.now)) last) w) }
 {
     let first = strands_of(one);
     let second = strands_of(other);
@@ -244,7 +248,9 @@ pub fn join(
     requires other { AreBlocks (values other.now) }
     requires known { AllKnown (length lists.now.english.order) (together (flat (values one.now)) (flat (values other.now)) last) }
     ensures blocks { IfOk result (λ all. AreBlocks (values all.items)) }
-    ensures strands { IfOk result (λ all. (w : Strand) → Among w (flat (values all.items)) ↔ IsGreatest lists.now own (together (flat (values one.now)) (flat (values other.now)) last) w) }
+    ensures strands { IfOk result
+        (λ all. (w : Strand) → Among w (flat (values all.items)) ↔ IsGreatest lists.now own
+        (together (flat (values one.now)) (flat (values other.now)) last) w) }
 {
     let mut all = Vec::new(alloc);
     all.reserve(one.len().max(other.len()) + 1)?;

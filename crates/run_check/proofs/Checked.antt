@@ -18,7 +18,8 @@ use Rattle.run_replay.specs.Steps.{IsNoStep}
 taken_count : (xs : List Entry) (i : ℕ) → i < length xs → length (map event_of (take i xs)) ≡ i
 taken_count xs i lt = length-map (take i xs) event_of ∙ length-take-le i xs (omega (arith, lt))
 
-pub no_step_at : (P : tree.Program) (xs : List Entry) (i n : ℕ) (x : Entry) (m : Machine) → i < length xs → n ≡ length (map event_of (take i xs)) → slice_get xs i ≡ Some x → Leads P (opening P) (map event_of (take i xs)) m → IsNoStep P m (event_of x) → IsNoStepAt P (map event_of xs) n
+pub no_step_at : (P : tree.Program) (xs : List Entry) (i n : ℕ) (x : Entry) (m : Machine) → i < length xs → n ≡ length (map event_of (take i xs))
+    → slice_get xs i ≡ Some x → Leads P (opening P) (map event_of (take i xs)) m → IsNoStep P m (event_of x) → IsNoStepAt P (map event_of xs) n
 no_step_at P xs i n x m lt count is leads none =
     subst (λ k. IsNoStepAt P (map event_of xs) k) (sym (count ∙ taken_count xs i lt))
     (record {
@@ -29,5 +30,6 @@ no_step_at P xs i n x m lt count is leads none =
       none = none;
     })
 
-pub others_by : (P : tree.Program) (code : Compiled) (h : List Event) (now : ReplayNow) (m : Machine) (races : List Race) (end : Finish) (k : ℕ) → IsReplayOf P code h now m → k ≡ now.entries → (AreThoseOf P h races end → ⊥) → IsRefusedAt P h races end k
+pub others_by : (P : tree.Program) (code : Compiled) (h : List Event) (now : ReplayNow) (m : Machine) (races : List Race) (end : Finish) (k : ℕ)
+    → IsReplayOf P code h now m → k ≡ now.entries → (AreThoseOf P h races end → ⊥) → IsRefusedAt P h races end k
 others_by P code h now m races end k x count others = inr (record { legal = (m, x.leads); number = count ∙ x.entries; others = others })

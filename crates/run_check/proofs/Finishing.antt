@@ -35,7 +35,8 @@ not_out P s (wish.End _) is w out = stands_or_goes_on s w.0 (at_event s w.0 w.1)
 not_out P s wish.Long is w out = absurd is
 
 module _ (P : tree.Program) (code : Compiled) (h : List Event) (now : ReplayNow) (m : Machine) (x : IsReplayOf P code h now m) where
-  pub whole_by : (first : Option ℕ) (none : Bool) → is_some first ≡ not none → MatchOption first (EachEnded m.tasks) (λ t. (r : Running) × IsFirst h m t r) → IsTrue none ↔ IsWhole P h
+  pub whole_by : (first : Option ℕ) (none : Bool) → is_some first ≡ not none → MatchOption first (EachEnded m.tasks) (λ t. (r : Running) × IsFirst h m t r)
+      → IsTrue none ↔ IsWhole P h
   whole_by None true is each = (λ yes. (m, x.leads, each), λ whole. refl)
   whole_by None false is each = absurd (false≢true is)
   whole_by (Some t) true is first = absurd (false≢true (sym is))
@@ -58,8 +59,10 @@ module _ (P : tree.Program) (code : Compiled) (h : List Event) (now : ReplayNow)
   pub local_idle : (t : ℕ) → is_running (slice_get now.lines t) ≡ false → IsTrue false ↔ FinishHolds P h (finish.Local t)
   local_idle t is = (λ no. absurd (false≢true no), λ end. absurd (let s = spent t end in idle P code h now m t s.0 x is s.1))
 
-  pub local_by : (t : ℕ) (r : Running) (w : asked.Wish) (long : Bool) → IsRunning m t r → Wishes P MOST_LOCAL_STEPS r.state w → (long ≡ true → w ≡ wish.Long) → (long ≡ false → IsEvent w) → IsTrue long ↔ FinishHolds P h (finish.Local t)
-  local_by t r w true run wishes is event = (λ yes. (m, r, x.leads, run, (MOST_LOCAL_STEPS, refl, subst (λ z. Wishes P MOST_LOCAL_STEPS r.state z) (is refl) wishes)), λ end. refl)
+  pub local_by : (t : ℕ) (r : Running) (w : asked.Wish) (long : Bool) → IsRunning m t r → Wishes P MOST_LOCAL_STEPS r.state w → (long ≡ true → w ≡ wish.Long)
+      → (long ≡ false → IsEvent w) → IsTrue long ↔ FinishHolds P h (finish.Local t)
+  local_by t r w true run wishes is event =
+      (λ yes. (m, r, x.leads, run, (MOST_LOCAL_STEPS, refl, subst (λ z. Wishes P MOST_LOCAL_STEPS r.state z) (is refl) wishes)), λ end. refl)
   local_by t r w false run wishes is event = (
     λ no. absurd (false≢true no),
     λ end. absurd (
@@ -73,7 +76,8 @@ module _ (P : tree.Program) (code : Compiled) (h : List Event) (now : ReplayNow)
   pub futures_idle : (t : ℕ) → is_running (slice_get now.lines t) ≡ false → IsTrue false ↔ FinishHolds P h (finish.Futures t)
   futures_idle t is = (λ no. absurd (false≢true no), λ end. absurd (let s = full t end in idle P code h now m t s.0 x is s.1))
 
-  pub futures_by : (t : ℕ) (r : Running) (w : asked.Wish) → now.creates ≡ MOST_CREATES → IsRunning m t r → Wishes P MOST_LOCAL_STEPS r.state w → IsTrue (is_create w) ↔ FinishHolds P h (finish.Futures t)
+  pub futures_by : (t : ℕ) (r : Running) (w : asked.Wish) → now.creates ≡ MOST_CREATES → IsRunning m t r → Wishes P MOST_LOCAL_STEPS r.state w
+      → IsTrue (is_create w) ↔ FinishHolds P h (finish.Futures t)
   futures_by t r w many run wishes = (
     λ is. (m, r, x.leads, run, sym x.creates ∙ many, create_of P r w is wishes),
     λ end. (

@@ -34,7 +34,8 @@ around_taken xs k n x at less =
     (take d whole.0, ap (take n) whole.1 ∙ (ap (λ m. take m (take k xs ++ x ∷ whole.0)) long ∙ take-append-add (take k xs) (x ∷ whole.0) (suc d)))
 
 -- no events go past an entry that is no step
-no_way : (P : tree.Program) (h : List Event) (k : ℕ) (bad : IsNoStepAt P h k) (g more : List Event) (m : Machine) → Leads P (opening P) g m → g ≡ take k h ++ bad.entry ∷ more → ⊥
+no_way : (P : tree.Program) (h : List Event) (k : ℕ) (bad : IsNoStepAt P h k) (g more : List Event) (m : Machine) → Leads P (opening P) g m
+    → g ≡ take k h ++ bad.entry ∷ more → ⊥
 no_way P h k bad g more m leads is =
     let parts = split P (opening P) (take k h) (bad.entry ∷ more) m (subst (λ x. Leads P (opening P) x m) is leads) in
     let same : parts.0 ≡ bad.machine = leads_to_one P (opening P) (take k h) parts.0 bad.machine parts.1 bad.before in
@@ -51,11 +52,13 @@ not_later P h j k first second less =
     let begun = around_taken h j k first.entry first.stands less in
     no_way P h j first (take k h) begun.0 second.machine second.before begun.1
 
-pub accepted_is_not_refused : (P : tree.Program) (h : List Event) (races : List Race) (end : Finish) (k : ℕ) → IsAccepted P h races end → IsRefusedAt P h races end k → ⊥
+pub accepted_is_not_refused : (P : tree.Program) (h : List Event) (races : List Race) (end : Finish) (k : ℕ) → IsAccepted P h races end
+    → IsRefusedAt P h races end k → ⊥
 accepted_is_not_refused P h races end k accepted (inl bad) = legal_goes_on P h k accepted.legal bad
 accepted_is_not_refused P h races end k accepted (inr others) = others.others accepted.those
 
-pub one_refusal : (P : tree.Program) (h : List Event) (races : List Race) (end : Finish) (j k : ℕ) → IsRefusedAt P h races end j → IsRefusedAt P h races end k → j ≡ k
+pub one_refusal : (P : tree.Program) (h : List Event) (races : List Race) (end : Finish) (j k : ℕ) → IsRefusedAt P h races end j → IsRefusedAt P h races end k
+    → j ≡ k
 one_refusal P h races end j k (inl a) (inl b) = omega (arith, not_later P h j k a b, not_later P h k j b a)
 one_refusal P h races end j k (inl a) (inr b) = absurd (legal_goes_on P h j b.legal a)
 one_refusal P h races end j k (inr a) (inl b) = absurd (legal_goes_on P h k a.legal b)

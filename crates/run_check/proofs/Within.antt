@@ -41,16 +41,20 @@ use Rattle.run_check.specs.Within.{AcceptedAreWithin}
 
 -- ---- arguments
 
-values_few : (globals : List tree.Item) (gives : ℕ → ℕ → Bool) (before : List Variable) (n : ℕ) (ps : List tree.Param) (vs : List Value) → slots before ≤ MOST_ARGUMENTS → params_faults globals before n ps ≡ [] → ParamsFit gives ps vs → slots before + length vs ≤ MOST_ARGUMENTS
+values_few : (globals : List tree.Item) (gives : ℕ → ℕ → Bool) (before : List Variable) (n : ℕ) (ps : List tree.Param) (vs : List Value)
+    → slots before ≤ MOST_ARGUMENTS → params_faults globals before n ps ≡ [] → ParamsFit gives ps vs → slots before + length vs ≤ MOST_ARGUMENTS
 values_few globals gives before n [] vs few f fits = let none : length vs ≡ 0 = ap length fits in omega arith
 values_few globals gives before n (p ∷ ps) vs few f (own, rest, is, holds, sized, fits) =
     let later = params_faults globals (before ++ param_variable p ∷ []) (n + param_width p) ps in
-    let parts = nil_three (declared_faults globals before n (param_variable p)) (fault_if (is_over before (kind_of p.type)) n rule.ConstantLimit) (type_faults (n + 2) p.type) (nil_left (param_faults globals before n p) later f) in
+    let parts = nil_three (declared_faults globals before n (param_variable p)) (fault_if (is_over before (kind_of p.type)) n rule.ConstantLimit)
+    (type_faults (n + 2) p.type) (nil_left (param_faults globals before n p) later f) in
     let over = not_found (is_over before (kind_of p.type)) n rule.ConstantLimit parts.1 in
-    let fit : slots before + size (kind_of p.type) ≤ 16 = ltb-false 16 (slots before + size (kind_of p.type)) (or_parts (nat_eq (length before) 8) (nat_lt 16 (slots before + size (kind_of p.type))) over).1 in
+    let fit : slots before + size (kind_of p.type) ≤ 16 =
+    ltb-false 16 (slots before + size (kind_of p.type)) (or_parts (nat_eq (length before) 8) (nat_lt 16 (slots before + size (kind_of p.type))) over).1 in
     let more : slots (before ++ param_variable p ∷ []) ≡ slots before + size (kind_of p.type) = slots_more before (param_variable p) in
     let behind : slots (before ++ param_variable p ∷ []) + length rest ≤ MOST_ARGUMENTS =
-    values_few globals gives (before ++ param_variable p ∷ []) (n + param_width p) ps rest (omega arith) (nil_right (param_faults globals before n p) later f) fits in
+    values_few globals gives (before ++ param_variable p ∷ []) (n + param_width p) ps rest (omega arith)
+    (nil_right (param_faults globals before n p) later f) fits in
     omega (arith, ap length is, length-append own rest, sized)
 
 args_few : (P : tree.Program) (gives : ℕ → ℕ → Bool) (which : ℕ) (args : List Value) → IsWellTyped P → ArgsFit gives P which args → length args ≤ MOST_ARGUMENTS
@@ -83,11 +87,15 @@ action_within (Syncs _) k s = k
 action_within (Gets _ _ _) k s = k
 action_within (Ends _) k s = k
 
-events_within : (P : tree.Program) (past h : List Event) (m n : Machine) → IsWellTyped P → Leads P (opening P) past m → Leads P m h n → AreNumbered h → AreEvents h
+events_within : (P : tree.Program) (past h : List Event) (m n : Machine) → IsWellTyped P → Leads P (opening P) past m → Leads P m h n → AreNumbered h
+    → AreEvents h
 events_within P past [] m n typed before l k = tt
 events_within P past (e ∷ h) m n typed before (next, step, rest) ((task, strand, own), k) =
-    let few = λ (which : ℕ) (args : List Value) (p : Passes e.action which args). args_few P any_future which args typed (children_fit P past m e next which args typed before step p) in
-    ((task, strand, action_within e.action own (short_by e.action few)), events_within P (past ++ e ∷ []) h next n typed (leads_further P (opening P) past e m next before step) rest k)
+    let few = λ (which : ℕ) (args : List Value) (p : Passes e.action which args). args_few P any_future which args typed
+    (children_fit P past m e next which args typed before step p) in (
+      (task, strand, action_within e.action own (short_by e.action few)),
+      events_within P (past ++ e ∷ []) h next n typed (leads_further P (opening P) past e m next before step) rest k,
+    )
 
 -- ---- cells
 
@@ -104,7 +112,8 @@ access_below n w (Gets _ _ _) c below answers is = absurd is
 access_below n w (Ends _) c below answers is = absurd is
 
 -- an entry of a run accesses a cell of the program
-accesses_below : (P : tree.Program) (m n : Machine) (h : List Event) (i : ℕ) (e : Event) (c : ℕ) → HasCells P → Leads P m h n → slice_get h i ≡ Some e → IsAccess c e.action → c < cell_count P
+accesses_below : (P : tree.Program) (m n : Machine) (h : List Event) (i : ℕ) (e : Event) (c : ℕ) → HasCells P → Leads P m h n → slice_get h i ≡ Some e
+    → IsAccess c e.action → c < cell_count P
 accesses_below P m n [] i e c some l at is = absurd (no_some e _ at refl)
 accesses_below P m n (x ∷ h) zero e c some (next, step, rest) at is =
     access_below (cell_count P) _ x.action c (wish_below P some step.stop) step.answers (subst (λ (z : Event). IsAccess c z.action) (sym (same_Some x e at)) is)
@@ -118,7 +127,8 @@ record IsInside (cells entries : ℕ) (r : Race) : Type 0 where
   pub order : r.first < r.second
   pub second : r.second < entries
 
-pair_inside : (P : tree.Program) (h : List Event) (m : Machine) → HasCells P → Leads P (opening P) h m → (r : Race) → IsFirstPair h r.cell r.first r.second → IsInside (cell_count P) (length h) r
+pair_inside : (P : tree.Program) (h : List Event) (m : Machine) → HasCells P → Leads P (opening P) h m → (r : Race) → IsFirstPair h r.cell r.first r.second
+    → IsInside (cell_count P) (length h) r
 pair_inside P h m some l r pair =
     let (a, b, at_a, at_b, racing) = pair.race.events in
     record {
@@ -127,17 +137,20 @@ pair_inside P h m some l r pair =
       second = get_below h r.second b at_b;
     }
 
-rising_few : (cells entries : ℕ) (r : Race) (rs : List Race) → IsInside cells entries r → All (IsInside cells entries) rs → AreRising (r ∷ rs) → r.cell + length (r ∷ rs) ≤ cells
+rising_few : (cells entries : ℕ) (r : Race) (rs : List Race) → IsInside cells entries r → All (IsInside cells entries) rs → AreRising (r ∷ rs)
+    → r.cell + length (r ∷ rs) ≤ cells
 rising_few cells entries r [] own each up = let k : r.cell < cells = own.cell in omega arith
 rising_few cells entries r (s ∷ rs) own each up =
-    let k : s.cell + length (s ∷ rs) ≤ cells = rising_few cells entries s rs (All-head (IsInside cells entries) s rs each) (All-tail (IsInside cells entries) s rs each) up.1 in
+    let k : s.cell + length (s ∷ rs) ≤ cells =
+    rising_few cells entries s rs (All-head (IsInside cells entries) s rs each) (All-tail (IsInside cells entries) s rs each) up.1 in
     let less : r.cell < s.cell = All-head (λ (x : Race). r.cell < x.cell) s rs up.0 in
     omega arith
 
 races_few : (cells entries : ℕ) (races : List Race) → All (IsInside cells entries) races → AreRising races → length races ≤ cells
 races_few cells entries [] each up = omega arith
 races_few cells entries (r ∷ rs) each up =
-    let k : r.cell + length (r ∷ rs) ≤ cells = rising_few cells entries r rs (All-head (IsInside cells entries) r rs each) (All-tail (IsInside cells entries) r rs each) up in
+    let k : r.cell + length (r ∷ rs) ≤ cells =
+    rising_few cells entries r rs (All-head (IsInside cells entries) r rs each) (All-tail (IsInside cells entries) r rs each) up in
     omega arith
 
 small : (n most : ℕ) → n < most → most ≤ MOST_ENTRIES → n < 2 ^ 32
@@ -149,8 +162,10 @@ races_within cells entries (r ∷ rs) few short each =
     let own = All-head (IsInside cells entries) r rs each in
     let order : r.first < r.second = own.order in
     let second : r.second < entries = own.second in
-    let first : r.first < entries = omega arith in
-    ((small r.cell cells own.cell few, small r.first entries first short, small r.second entries second short), races_within cells entries rs few short (All-tail (IsInside cells entries) r rs each))
+    let first : r.first < entries = omega arith in (
+      (small r.cell cells own.cell few, small r.first entries first short, small r.second entries second short),
+      races_within cells entries rs few short (All-tail (IsInside cells entries) r rs each),
+    )
 
 pub accepted_are_within : AcceptedAreWithin
 accepted_are_within P bytes h races end typed accepted short few numbered finished =

@@ -36,7 +36,8 @@ fn code_of(alloc: Global, text: &[u8]) -> Result<Code, NoMemory>
     }
 }
 
-/// A future and a child write two cells; `main` waits for the child, reads, and gets the future. The serial run: 0 t0 s0 create 0 t1 s1 s2 3, 1 t1 s1 write 0 3,
+/// A future and a child write two cells; `main` waits for the child, reads, and gets the future. The serial run: 0 t0 s0 create 0 t1 s1 s2 3, 1 t1 s1 write 0
+/// 3,
 /// 2 t1 s1 write 1 3, 3 t1 s1 end 5, 4 t0 s2 spawn 0 t2 s3 s4 4, 5 t2 s3 write 0 4, 6 t2 s3 write 1 4, 7 t2 s3 end 5,
 /// 8 t0 s4 sync s5, 9 t0 s5 read 0 4, 10 t0 s5 get f1 5 s6, 11 t0 s6 end 5. Its races: cell 0 at 1 and 5, cell 1 at 2 and 6.
 const RACES: &str =

@@ -65,7 +65,8 @@ ended_from P m (e ∷ h) n t (next, step, rest) =
     elim (cases_Bool (ends_task t e)) [
       | inl st ↦ (
           let k = ends_is t e st in
-          let d : IsDone next e.task = record { task = acted step.task step.stop e.action; present = acting_task P m e next step; done = end_value e.action step.task.value k.0 } in
+          let d : IsDone next e.task =
+          record { task = acted step.task step.stop e.action; present = acting_task P m e next step; done = end_value e.action step.task.value k.0 } in
           let none : count_by (ends_task t) h ≡ 0 = done_rest P next h n t rest (subst (λ z. IsDone next z) k.1 d) in
           let all : count_by (ends_task t) (e ∷ h) ≡ 1 + count_by (ends_task t) h = count_on (ends_task t) e h st in
           omega arith)
@@ -115,7 +116,8 @@ module _ (P : tree.Program) (m : Machine) (t s : ℕ) (n : Machine) (f : ℕ) (v
         ]
       ]
 
-has_from : (P : tree.Program) (m : Machine) (h : List Event) (n : Machine) (f : ℕ) (v : Value) → Leads P m h n → Has n f v → Has m f v ⊎ ((s : ℕ) × Among (ev f s (Ends v)) h)
+has_from : (P : tree.Program) (m : Machine) (h : List Event) (n : Machine) (f : ℕ) (v : Value) → Leads P m h n → Has n f v
+    → Has m f v ⊎ ((s : ℕ) × Among (ev f s (Ends v)) h)
 has_from P m [] n f v l k = inl (subst (λ (z : Machine). Has z f v) (sym l) k)
 has_from P m (e ∷ h) n f v (next, step, rest) k =
     elim (has_from P next h n f v rest k) [

@@ -8,9 +8,12 @@ use Rattle.fut_base.specs.declared.event.Action.{Action}
 use Rattle.fut_base.specs.declared.event.Action.TheVariants.{Reads, Writes, Spawns, Creates, Syncs, Gets, Ends}
 use Rattle.fut_syntax.specs.Trees as tree
 use Rattle.task_machine.specs.Values.{is_zero, index_of}
-use Rattle.task_machine.specs.Variables.{Slot, One, Many, Variables, slot_at, put, value_of, values_of, filled, refilled, signed, slot_in, operand_in, primary_in, value_in, number_in, values_in, size_of, taken, bound}
+use Rattle.task_machine.specs.Variables.{Slot, One, Many, Variables, slot_at, put, value_of, values_of, filled, refilled, signed}
+use Rattle.task_machine.specs.Variables.{slot_in, operand_in, primary_in, value_in, number_in, values_in, size_of, taken, bound}
 use Rattle.task_machine.specs.Texts.{TaskText, task_at, task_number, cell_at, stmts_of, else_of}
-use Rattle.task_machine.specs.State.{TaskState, Wish, ToSpawn, ToCreate, ToGet, ToEnd, started, start_state, goes_on, set_by, element_of, local_value, init_step, store_step, step_by, first_step, read_of, write_of, spawn_of, create_of, get_of, end_of, wish_of_init, wish_by, first_wish, wish_of, receives, effect_of}
+use Rattle.task_machine.specs.State.{TaskState, Wish, ToSpawn, ToCreate, ToGet, ToEnd, started, start_state, goes_on, set_by}
+use Rattle.task_machine.specs.State.{element_of, local_value, init_step, store_step, step_by, first_step, read_of, write_of, spawn_of}
+use Rattle.task_machine.specs.State.{create_of, get_of, end_of, wish_of_init, wish_by, first_wish, wish_of, receives, effect_of}
 use Rattle.task_machine.specs.Runs.{Steps, StandsAt}
 
 -- V holds of each value
@@ -161,7 +164,8 @@ module _ (V : Value → Type 0) (int : (z : ℤ) → V (Int z)) where
   kept_by : (s t u : TaskState) → Kept s t → Some t ≡ Some u → Kept s u
   kept_by s t u k e = subst (λ x. Kept s x) (same_Some t u e) k
 
-  init_all : (s u : TaskState) (rest : List tree.Stmt) (stmt : tree.Stmt) (o : Option Value) → ((v : Value) → o ≡ Some v → V v) → InAll V s.vars → init_step s rest stmt o ≡ Some u → Kept s u
+  init_all : (s u : TaskState) (rest : List tree.Stmt) (stmt : tree.Stmt) (o : Option Value) → ((v : Value) → o ≡ Some v → V v) → InAll V s.vars
+      → init_step s rest stmt o ≡ Some u → Kept s u
   init_all s u rest stmt None f h e = cc
   init_all s u rest stmt (Some v) f h e = kept_by s (goes_on s rest (set_by stmt s.vars v)) u (refl, set_by_all stmt s.vars v h (f v refl)) e
 
@@ -178,18 +182,25 @@ module _ (V : Value → Type 0) (int : (z : ℤ) → V (Int z)) where
   local_all vs (tree.Index word x) h v e = element_all (slot_at vs word) (number_in vs x) v (slot_all vs word h) e
   local_all vs (tree.Value x) h v e = some_value (value_in vs x) v e (value_in_all vs x h)
 
-  store_all : (s u : TaskState) (rest : List tree.Stmt) (word : List ℕ) (slot : Slot) (z : ℤ) (v : Value) → InAll V s.vars → Each V (values_of slot) → V v → store_step s rest word slot z v ≡ Some u → Kept s u
+  store_all : (s u : TaskState) (rest : List tree.Stmt) (word : List ℕ) (slot : Slot) (z : ℤ) (v : Value) → InAll V s.vars → Each V (values_of slot) → V v
+      → store_step s rest word slot z v ≡ Some u → Kept s u
   store_all s u rest word (One _) z v h k w e = cc
   store_all s u rest word (Many vs) z v h k w e =
-      kept_by s (goes_on s rest (put s.vars word (Many (slice_set vs (index_of (length vs) z) v)))) u (refl, put_all s.vars word (Many (slice_set vs (index_of (length vs) z) v)) h (each_set vs (index_of (length vs) z) v k w)) e
+      kept_by s (goes_on s rest (put s.vars word (Many (slice_set vs (index_of (length vs) z) v)))) u
+      (refl, put_all s.vars word (Many (slice_set vs (index_of (length vs) z) v)) h (each_set vs (index_of (length vs) z) v k w)) e
 
   step_all : (s u : TaskState) (rest : List tree.Stmt) (stmt : tree.Stmt) → InAll V s.vars → step_by s rest stmt ≡ Some u → Kept s u
-  step_all s u rest (tree.Declare word type) h e = kept_by s (goes_on s rest (put s.vars word (filled type (Int (pos 0))))) u (refl, put_all s.vars word (filled type (Int (pos 0))) h (filled_all type (Int (pos 0)) (int (pos 0)))) e
+  step_all s u rest (tree.Declare word type) h e =
+      kept_by s (goes_on s rest (put s.vars word (filled type (Int (pos 0))))) u
+      (refl, put_all s.vars word (filled type (Int (pos 0))) h (filled_all type (Int (pos 0)) (int (pos 0)))) e
   step_all s u rest (tree.Define word type init) h e = init_all s u rest (tree.Define word type init) (local_value s.vars init) (local_all s.vars init h) h e
   step_all s u rest (tree.Assign word init) h e = init_all s u rest (tree.Assign word init) (local_value s.vars init) (local_all s.vars init h) h e
-  step_all s u rest (tree.Store word x y) h e = store_all s u rest word (slot_at s.vars word) (number_in s.vars x) (value_in s.vars y) h (slot_all s.vars word h) (value_in_all s.vars y h) e
-  step_all s u rest (tree.If' x b t) h e = kept_by s (goes_on s (if is_zero (number_in s.vars x) then else_of t ++ rest else stmts_of b ++ rest) s.vars) u (refl, h) e
-  step_all s u rest (tree.While' x b) h e = kept_by s (goes_on s (if is_zero (number_in s.vars x) then rest else stmts_of b ++ tree.While' x b ∷ rest) s.vars) u (refl, h) e
+  step_all s u rest (tree.Store word x y) h e =
+      store_all s u rest word (slot_at s.vars word) (number_in s.vars x) (value_in s.vars y) h (slot_all s.vars word h) (value_in_all s.vars y h) e
+  step_all s u rest (tree.If' x b t) h e =
+      kept_by s (goes_on s (if is_zero (number_in s.vars x) then else_of t ++ rest else stmts_of b ++ rest) s.vars) u (refl, h) e
+  step_all s u rest (tree.While' x b) h e =
+      kept_by s (goes_on s (if is_zero (number_in s.vars x) then rest else stmts_of b ++ tree.While' x b ∷ rest) s.vars) u (refl, h) e
   step_all s u rest (tree.SpawnOf _ _) h e = cc
   step_all s u rest tree.SyncAll h e = cc
   step_all s u rest (tree.Return' _) h e = cc

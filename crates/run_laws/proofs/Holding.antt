@@ -43,7 +43,8 @@ held_on : (by t f : ℕ) (a : Action) (old : Bool) → NotMade a t → old ≡ t
 held_on by t f (Reads _ _) old nm h = h
 held_on by t f (Writes _ _) old nm h = h
 held_on by t f (Spawns _ child _ _ args) old nm h = if_off t child (has_handle f args) old nm ∙ h
-held_on by t f (Creates _ child _ _ args) old nm h = if_off t child (has_handle f args) (((t == by) && (f == child)) || old) nm ∙ or_right ((t == by) && (f == child)) old h
+held_on by t f (Creates _ child _ _ args) old nm h =
+    if_off t child (has_handle f args) (((t == by) && (f == child)) || old) nm ∙ or_right ((t == by) && (f == child)) old h
 held_on by t f (Syncs _) old nm h = h
 held_on by t f (Gets _ value _) old nm h = or_right ((t == by) && is_handle f value) old h
 held_on by t f (Ends _) old nm h = h
@@ -81,12 +82,14 @@ effect_open s (Syncs _) block h = refl
 effect_open s (Gets _ value _) block h = receives_open s s.todo value ∙ h
 effect_open s (Ends _) block h = h
 
-own_holds : (past : List Event) (t s : ℕ) (a : Action) (r : Running) (stop : TaskState) → NotMade a t → StandsAt r.state stop → Holder past t r → Holder (ev t s a ∷ past) t (acted r stop a)
+own_holds : (past : List Event) (t s : ℕ) (a : Action) (r : Running) (stop : TaskState) → NotMade a t → StandsAt r.state stop → Holder past t r
+    → Holder (ev t s a ∷ past) t (acted r stop a)
 own_holds past t s a r stop nm at x =
     let k = stands_all (HoldsValue past t) (numbers past t) r.state stop x.vars at in
     record {
       is_open = effect_open stop a r.block (k.0 ∙ x.is_open);
-      vars = effect_all (HoldsValue (ev t s a ∷ past) t) (numbers (ev t s a ∷ past) t) stop a (all_more (HoldsValue past t) (HoldsValue (ev t s a ∷ past) t) (value_on past t s a t nm) stop.vars k.1) (brought past t s a nm);
+      vars = effect_all (HoldsValue (ev t s a ∷ past) t) (numbers (ev t s a ∷ past) t) stop a
+          (all_more (HoldsValue past t) (HoldsValue (ev t s a ∷ past) t) (value_on past t s a t nm) stop.vars k.1) (brought past t s a nm);
     }
 
 other_holds : (past : List Event) (by s : ℕ) (a : Action) (t : ℕ) (r : Running) → NotMade a t → Holder past t r → Holder (ev by s a ∷ past) t r
@@ -105,23 +108,28 @@ given (v ∷ args) = (
   each_more (Given args) (Given (v ∷ args)) (λ w g f h. or_right (is_handle f v) (has_handle f args) (g f h)) args (given args),
 )
 
-spawn_given : (past : List Event) (by s code child kid cont : ℕ) (args : List Value) (v : Value) → Given args v → HoldsValue (ev by s (Spawns code child kid cont args) ∷ past) child v
+spawn_given : (past : List Event) (by s code child kid cont : ℕ) (args : List Value) (v : Value) → Given args v
+    → HoldsValue (ev by s (Spawns code child kid cont args) ∷ past) child v
 spawn_given past by s code child kid cont args (Int z) g = tt
 spawn_given past by s code child kid cont args (Fut f) g = if_self child (has_handle f args) (holds_handle past child f) ∙ g f (eq-eqb f f refl)
 
-create_given : (past : List Event) (by s code child kid cont : ℕ) (args : List Value) (v : Value) → Given args v → HoldsValue (ev by s (Creates code child kid cont args) ∷ past) child v
+create_given : (past : List Event) (by s code child kid cont : ℕ) (args : List Value) (v : Value) → Given args v
+    → HoldsValue (ev by s (Creates code child kid cont args) ∷ past) child v
 create_given past by s code child kid cont args (Int z) g = tt
-create_given past by s code child kid cont args (Fut f) g = if_self child (has_handle f args) (((child == by) && (f == child)) || holds_handle past child f) ∙ g f (eq-eqb f f refl)
+create_given past by s code child kid cont args (Fut f) g =
+    if_self child (has_handle f args) (((child == by) && (f == child)) || holds_handle past child f) ∙ g f (eq-eqb f f refl)
 
 started_open : (o : Option TaskText) (args : List Value) → (started o args).is_open ≡ false
 started_open None args = refl
 started_open (Some t) args = refl
 
-begun_holds : (P : tree.Program) (past : List Event) (t code kid future : ℕ) (args : List Value) → Each (HoldsValue past t) args → Holder past t (begins P code args kid future)
+begun_holds : (P : tree.Program) (past : List Event) (t code kid future : ℕ) (args : List Value) → Each (HoldsValue past t) args
+    → Holder past t (begins P code args kid future)
 begun_holds P past t code kid future args h =
     record { is_open = started_open (task_at P code) args; vars = start_all (HoldsValue past t) (numbers past t) P code args h }
 
-made_holds : (P : tree.Program) (past : List Event) (m : Machine) (by s : ℕ) (a : Action) (r : Running) → Permits m r a → (t : ℕ) (q : Running) → Behind m.tasks (child_of P r a) t q → Holder (ev by s a ∷ past) t q
+made_holds : (P : tree.Program) (past : List Event) (m : Machine) (by s : ℕ) (a : Action) (r : Running) → Permits m r a → (t : ℕ) (q : Running)
+    → Behind m.tasks (child_of P r a) t q → Holder (ev by s a ∷ past) t q
 made_holds P past m by s (Reads _ _) r may t q (k, at, is) = cc
 made_holds P past m by s (Writes _ _) r may t q (k, at, is) = cc
 made_holds P past m by s (Spawns code child kid cont args) r may t q (k, at, is) =
@@ -131,7 +139,8 @@ made_holds P past m by s (Spawns code child kid cont args) r may t q (k, at, is)
     let same : child ≡ t = may.0 ∙ (let z : length m.tasks ≡ t = omega arith in z) in
     subst (λ (z : ℕ). Holder now z q) same
     (subst (λ (z : Running). Holder now child z) o.1
-    (begun_holds P now child code kid r.future args (each_more (Given args) (HoldsValue now child) (spawn_given past by s code child kid cont args) args (given args))))
+    (begun_holds P now child code kid r.future args
+    (each_more (Given args) (HoldsValue now child) (spawn_given past by s code child kid cont args) args (given args))))
 made_holds P past m by s (Creates code child kid cont args) r may t q (k, at, is) =
     let now : List Event = ev by s (Creates code child kid cont args) ∷ past in
     let o = only (begins P code args kid child) q k is in
@@ -139,14 +148,16 @@ made_holds P past m by s (Creates code child kid cont args) r may t q (k, at, is
     let same : child ≡ t = may.0 ∙ (let z : length m.tasks ≡ t = omega arith in z) in
     subst (λ (z : ℕ). Holder now z q) same
     (subst (λ (z : Running). Holder now child z) o.1
-    (begun_holds P now child code kid child args (each_more (Given args) (HoldsValue now child) (create_given past by s code child kid cont args) args (given args))))
+    (begun_holds P now child code kid child args
+    (each_more (Given args) (HoldsValue now child) (create_given past by s code child kid cont args) args (given args))))
 made_holds P past m by s (Syncs _) r may t q (k, at, is) = cc
 made_holds P past m by s (Gets _ _ _) r may t q (k, at, is) = cc
 made_holds P past m by s (Ends _) r may t q (k, at, is) = cc
 
 -- ---- all tasks
 
-module _ (P : tree.Program) (past : List Event) (m : Machine) (x : AllHold past m) (e : Event) (r : Running) (stop : TaskState) (present : slice_get m.tasks e.task ≡ Some r) (at : StandsAt r.state stop) (may : Permits m r e.action) where
+module _ (P : tree.Program) (past : List Event) (m : Machine) (x : AllHold past m) (e : Event) (r : Running) (stop : TaskState)
+    (present : slice_get m.tasks e.task ≡ Some r) (at : StandsAt r.state stop) (may : Permits m r e.action) where
   hold_after : AllHold (e ∷ past) (after P m e r stop)
   hold_after t q h =
       let below : e.task < length m.tasks = get_below m.tasks e.task r present in
@@ -156,7 +167,8 @@ module _ (P : tree.Program) (past : List Event) (m : Machine) (x : AllHold past 
             (subst (λ (z : Running). Holder (e ∷ past) e.task z) own.1
             (own_holds past e.task e.strand e.action r stop (not_made m r e.action e.task may (λ k. omega arith)) at (x e.task r present))))
         | inr other ↦ elim other [
-          | inl old ↦ other_holds past e.task e.strand e.action t q (not_made m r e.action t may (λ k. omega (arith, get_below m.tasks t q old.1))) (x t q old.1)
+          | inl old ↦ other_holds past e.task e.strand e.action t q (not_made m r e.action t may (λ k. omega (arith, get_below m.tasks t q old.1)))
+              (x t q old.1)
           | inr new ↦ made_holds P past m e.task e.strand e.action r may t q new
         ]
       ]
@@ -179,7 +191,11 @@ value_same past by s (Ends _) off t (Fut f) h = cc
 hold_same : (past : List Event) (e : Event) (m : Machine) → structural e.action ≡ false → AllHold (e ∷ past) m → AllHold past m
 hold_same past e m off x t r h =
     let k : Holder (e ∷ past) t r = x t r h in
-    record { is_open = k.is_open; vars = all_more (HoldsValue (e ∷ past) t) (HoldsValue past t) (value_same past e.task e.strand e.action off t) r.state.vars k.vars }
+    record {
+      is_open = k.is_open;
+      vars = all_more (HoldsValue (e ∷ past) t) (HoldsValue past t)
+          (value_same past e.task e.strand e.action off t) r.state.vars k.vars;
+    }
 
 hold_kept : (P : tree.Program) (past : List Event) (m n : Machine) (e : Event) → AllHold (kept_of past) m → IsStep P m e n → AllHold (kept_of (e ∷ past)) n
 hold_kept P past m n e x step =

@@ -18,7 +18,8 @@ Found vars (Fut f) = HasHandle vars f
 numbers_found : (vars : Variables) (z : ℤ) → Found vars (Int z)
 numbers_found vars z = tt
 
-each_found : (vars : Variables) (v : List ℕ × Slot) → Among v vars → (vs : List Value) → ((w : Value) → Among w vs → Among w (values_of v.1)) → Each (Found vars) vs
+each_found : (vars : Variables) (v : List ℕ × Slot) → Among v vars → (vs : List Value) → ((w : Value) → Among w vs → Among w (values_of v.1))
+    → Each (Found vars) vs
 each_found vars v here [] f = tt
 each_found vars v here (Int z ∷ vs) f = (tt, each_found vars v here vs (λ w a. f w (inr a)))
 each_found vars v here (Fut g ∷ vs) f = ((v, here, f (Fut g) (inl refl)), each_found vars v here vs (λ w a. f w (inr a)))

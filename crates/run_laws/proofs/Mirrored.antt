@@ -1,5 +1,6 @@
 -- The machine and the functions on the structure agree.
-use Rattle.std.proofs.Common.{◌≡◌, ◌≢◌, ℕ, zero, suc, ◌+◌, ◌<◌, ◌≤◌, Bool, true, false, ◌==◌, if◌then◌else◌, List, [], ◌∷◌, ◌++◌, length, inl, inr, refl, sym, ap, ◌∙◌, subst, arith}
+use Rattle.std.proofs.Common.{◌≡◌, ◌≢◌, ℕ, zero, suc, ◌+◌, ◌<◌, ◌≤◌, Bool, true, false, ◌==◌, if◌then◌else◌}
+use Rattle.std.proofs.Common.{List, [], ◌∷◌, ◌++◌, length, inl, inr, refl, sym, ap, ◌∙◌, subst, arith}
 use Rattle.std.specs.Prelude.{◌&&◌, Option, Some, None, option_map, reverse, slice_get}
 use Rattle.std.proofs.lemmas.Bool.{cases_Bool}
 use Rattle.fut_base.proofs.Cases.{by_eq}
@@ -68,7 +69,8 @@ fut_other (Gets _ _ _) t own old ne = refl
 fut_other (Ends _) t own old ne = refl
 
 -- the last strand of the acting task, which had not ended
-last_at : (past : List Event) (t s : ℕ) (a : Action) (r : Running) (stop : TaskState) → r.value ≡ None → r.strand ≡ s → last_of past t ≡ option_map (λ (v : Value). r.strand) r.value
+last_at : (past : List Event) (t s : ℕ) (a : Action) (r : Running) (stop : TaskState) → r.value ≡ None → r.strand ≡ s
+    → last_of past t ≡ option_map (λ (v : Value). r.strand) r.value
     → last_of (ev t s a ∷ past) t ≡ option_map (λ (v : Value). (acted r stop a).strand) (acted r stop a).value
 last_at past t s (Reads _ _) r stop run on h = last_same t t (Some s) (last_of past t) ∙ h
 last_at past t s (Writes _ _) r stop run on h = last_same t t (Some s) (last_of past t) ∙ h
@@ -125,7 +127,8 @@ none_next past by s a t ne nm x =
 
 -- ---- the task that is made
 
-spawned_next : (P : tree.Program) (past : List Event) (by s code child kid cont : ℕ) (args : List Value) (future : ℕ) → child ≢ by → future_of past by ≡ future → IsUnborn past child
+spawned_next : (P : tree.Program) (past : List Event) (by s code child kid cont : ℕ) (args : List Value) (future : ℕ) → child ≢ by
+    → future_of past by ≡ future → IsUnborn past child
     → IsMirrored (ev by s (Spawns code child kid cont args) ∷ past) child (begins P code args kid future)
 spawned_next P past by s code child kid cont args future ne home x =
     record {
@@ -151,7 +154,8 @@ pub only : {X : Type 0} (x y : X) (k : ℕ) → slice_get (x ∷ []) k ≡ Some 
 only x y zero h = (refl, cc)
 only x y (suc k) h = cc
 
-made_next : (P : tree.Program) (past : List Event) (m : Machine) (by s : ℕ) (a : Action) (r : Running) → by < length m.tasks → Permits m r a → IsMirrored past by r → Mirrors past m
+made_next : (P : tree.Program) (past : List Event) (m : Machine) (by s : ℕ) (a : Action) (r : Running) → by < length m.tasks → Permits m r a
+    → IsMirrored past by r → Mirrors past m
     → (t : ℕ) (q : Running) → Behind m.tasks (child_of P r a) t q → IsMirrored (ev by s a ∷ past) t q
 made_next P past m by s (Reads _ _) r below may own x t q (k, at, is) = cc
 made_next P past m by s (Writes _ _) r below may own x t q (k, at, is) = cc
@@ -162,7 +166,8 @@ made_next P past m by s (Spawns code child kid cont args) r below may own x t q 
     let ne : child ≢ by = λ e. (let f : child ≡ length m.tasks = may.0 in omega arith) in
     let u : IsUnborn past child = subst (λ z. IsUnborn past z) (sym may.0) (x.none (length m.tasks) (omega arith)) in
     subst (λ (z : ℕ). IsMirrored (ev by s (Spawns code child kid cont args) ∷ past) z q) same
-    (subst (λ (z : Running). IsMirrored (ev by s (Spawns code child kid cont args) ∷ past) child z) o.1 (spawned_next P past by s code child kid cont args r.future ne own.future u))
+    (subst (λ (z : Running). IsMirrored (ev by s (Spawns code child kid cont args) ∷ past) child z) o.1
+    (spawned_next P past by s code child kid cont args r.future ne own.future u))
 made_next P past m by s (Creates code child kid cont args) r below may own x t q (k, at, is) =
     let o = only (begins P code args kid child) q k is in
     let first : k ≡ 0 = o.0 in
@@ -170,7 +175,8 @@ made_next P past m by s (Creates code child kid cont args) r below may own x t q
     let ne : child ≢ by = λ e. (let f : child ≡ length m.tasks = may.0 in omega arith) in
     let u : IsUnborn past child = subst (λ z. IsUnborn past z) (sym may.0) (x.none (length m.tasks) (omega arith)) in
     subst (λ (z : ℕ). IsMirrored (ev by s (Creates code child kid cont args) ∷ past) z q) same
-    (subst (λ (z : Running). IsMirrored (ev by s (Creates code child kid cont args) ∷ past) child z) o.1 (created_next P past by s code child kid cont args ne u))
+    (subst (λ (z : Running). IsMirrored (ev by s (Creates code child kid cont args) ∷ past) child z) o.1
+    (created_next P past by s code child kid cont args ne u))
 made_next P past m by s (Syncs _) r below may own x t q (k, at, is) = cc
 made_next P past m by s (Gets _ _ _) r below may own x t q (k, at, is) = cc
 made_next P past m by s (Ends _) r below may own x t q (k, at, is) = cc
@@ -185,7 +191,8 @@ late m r (Syncs _) t may le = tt
 late m r (Gets _ _ _) t may le = tt
 late m r (Ends _) t may le = tt
 
-module _ (P : tree.Program) (past : List Event) (m : Machine) (x : Mirrors past m) (e : Event) (r : Running) (stop : TaskState) (present : slice_get m.tasks e.task ≡ Some r) (run : r.value ≡ None) (on : r.strand ≡ e.strand) (may : Permits m r e.action) where
+module _ (P : tree.Program) (past : List Event) (m : Machine) (x : Mirrors past m) (e : Event) (r : Running) (stop : TaskState)
+    (present : slice_get m.tasks e.task ≡ Some r) (run : r.value ≡ None) (on : r.strand ≡ e.strand) (may : Permits m r e.action) where
   below : e.task < length m.tasks
   below = get_below m.tasks e.task r present
 
@@ -197,7 +204,8 @@ module _ (P : tree.Program) (past : List Event) (m : Machine) (x : Mirrors past 
             (subst (λ (z : Running). IsMirrored (e ∷ past) e.task z) own.1
             (own_next past e.task e.strand e.action r stop run on (not_made m r e.action e.task may (λ k. omega (arith, below))) (x.each e.task r present))))
         | inr other ↦ elim other [
-          | inl old ↦ other_next past e.task e.strand e.action t q old.0 (not_made m r e.action t may (λ k. omega (arith, get_below m.tasks t q old.1))) (x.each t q old.1)
+          | inl old ↦ other_next past e.task e.strand e.action t q old.0 (not_made m r e.action t may (λ k. omega (arith, get_below m.tasks t q old.1)))
+              (x.each t q old.1)
           | inr new ↦ made_next P past m e.task e.strand e.action r below may (x.each e.task r present) x t q new
         ]
       ]
@@ -222,9 +230,21 @@ mirrors_next P past m e n x step =
 
 same_each : (past : List Event) (by s : ℕ) (a : Action) → structural a ≡ false → (t : ℕ) (r : Running) → IsMirrored (ev by s a ∷ past) t r → IsMirrored past t r
 same_each past by s (Reads _ _) off t r x =
-    record { strand = x.strand; future = x.future; block = sym (both t by (block_of past t)) ∙ x.block; value = sym (both t by (value_of past t)) ∙ x.value; last = sym (last_same t by (Some s) (last_of past t)) ∙ x.last }
+    record {
+      strand = x.strand;
+      future = x.future;
+      block = sym (both t by (block_of past t)) ∙ x.block;
+      value = sym (both t by (value_of past t)) ∙ x.value;
+      last = sym (last_same t by (Some s) (last_of past t)) ∙ x.last;
+    }
 same_each past by s (Writes _ _) off t r x =
-    record { strand = x.strand; future = x.future; block = sym (both t by (block_of past t)) ∙ x.block; value = sym (both t by (value_of past t)) ∙ x.value; last = sym (last_same t by (Some s) (last_of past t)) ∙ x.last }
+    record {
+      strand = x.strand;
+      future = x.future;
+      block = sym (both t by (block_of past t)) ∙ x.block;
+      value = sym (both t by (value_of past t)) ∙ x.value;
+      last = sym (last_same t by (Some s) (last_of past t)) ∙ x.last;
+    }
 same_each past by s (Spawns _ _ _ _ _) off t r x = cc
 same_each past by s (Creates _ _ _ _ _) off t r x = cc
 same_each past by s (Syncs _) off t r x = cc
@@ -233,9 +253,19 @@ same_each past by s (Ends _) off t r x = cc
 
 same_none : (past : List Event) (by s : ℕ) (a : Action) → structural a ≡ false → (t : ℕ) → IsUnborn (ev by s a ∷ past) t → IsUnborn past t
 same_none past by s (Reads _ _) off t x =
-    record { strand = x.strand; block = sym (both t by (block_of past t)) ∙ x.block; value = sym (both t by (value_of past t)) ∙ x.value; last = sym (last_same t by (Some s) (last_of past t)) ∙ x.last }
+    record {
+      strand = x.strand;
+      block = sym (both t by (block_of past t)) ∙ x.block;
+      value = sym (both t by (value_of past t)) ∙ x.value;
+      last = sym (last_same t by (Some s) (last_of past t)) ∙ x.last;
+    }
 same_none past by s (Writes _ _) off t x =
-    record { strand = x.strand; block = sym (both t by (block_of past t)) ∙ x.block; value = sym (both t by (value_of past t)) ∙ x.value; last = sym (last_same t by (Some s) (last_of past t)) ∙ x.last }
+    record {
+      strand = x.strand;
+      block = sym (both t by (block_of past t)) ∙ x.block;
+      value = sym (both t by (value_of past t)) ∙ x.value;
+      last = sym (last_same t by (Some s) (last_of past t)) ∙ x.last;
+    }
 same_none past by s (Spawns _ _ _ _ _) off t x = cc
 same_none past by s (Creates _ _ _ _ _) off t x = cc
 same_none past by s (Syncs _) off t x = cc
@@ -268,7 +298,8 @@ mirrors_same past e m off x =
 start_each : (P : tree.Program) (t : ℕ) (r : Running) → slice_get (opening P).tasks t ≡ Some r → IsMirrored [] t r
 start_each P t r h =
     let o = only (begins P (main_of P) [] 0 0) r t h in
-    subst (λ (z : ℕ). IsMirrored [] z r) (sym o.0) (subst (λ (q : Running). IsMirrored [] 0 q) o.1 (record { strand = refl; future = refl; block = refl; value = refl; last = refl }))
+    subst (λ (z : ℕ). IsMirrored [] z r) (sym o.0)
+    (subst (λ (q : Running). IsMirrored [] 0 q) o.1 (record { strand = refl; future = refl; block = refl; value = refl; last = refl }))
 
 start_mirrors : (P : tree.Program) → Mirrors [] (opening P)
 start_mirrors P =
@@ -286,7 +317,8 @@ kept_on past e st = rw st refl
 pub kept_off : (past : List Event) (e : Event) → structural e.action ≡ false → kept_of (e ∷ past) ≡ kept_of past
 kept_off past e off = rw off refl
 
-pub mirrors_kept : (P : tree.Program) (past : List Event) (m n : Machine) (e : Event) → Mirrors (kept_of past) m → IsStep P m e n → Mirrors (kept_of (e ∷ past)) n
+pub mirrors_kept : (P : tree.Program) (past : List Event) (m n : Machine) (e : Event) → Mirrors (kept_of past) m → IsStep P m e n
+    → Mirrors (kept_of (e ∷ past)) n
 mirrors_kept P past m n e x step =
     let next : Mirrors (e ∷ kept_of past) n = mirrors_next P (kept_of past) m e n x step in
     elim (cases_Bool (structural e.action)) [

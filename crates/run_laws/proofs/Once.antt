@@ -1,5 +1,6 @@
 -- Each strand is begun once, and left once.
-use Rattle.std.proofs.Common.{◌≡◌, ◌≢◌, ℕ, zero, suc, ◌+◌, ◌<◌, ◌≤◌, Bool, true, false, cond, ◌==◌, ◌||◌, List, [], ◌∷◌, ◌++◌, length, ◌⊎◌, inl, inr, refl, sym, ap, ◌∙◌, subst, arith}
+use Rattle.std.proofs.Common.{◌≡◌, ◌≢◌, ℕ, zero, suc, ◌+◌, ◌<◌, ◌≤◌, Bool, true, false, cond, ◌==◌, ◌||◌}
+use Rattle.std.proofs.Common.{List, [], ◌∷◌, ◌++◌, length, ◌⊎◌, inl, inr, refl, sym, ap, ◌∙◌, subst, arith}
 use Rattle.std.proofs.lemmas.List.Sums.{sum_by-cons}
 use Rattle.std.specs.Prelude.{◌&&◌, Option, Some, None, IsSome, is_some, count_by, slice_get}
 use Rattle.std.proofs.lemmas.Option.{same_Some}
@@ -71,7 +72,8 @@ pub count_on : (p : Event → Bool) (e : Event) (h : List Event) → p e ≡ tru
 count_on p e h st = sum_by-cons (λ x. cond (p x) 1 0) e h ∙ ap (λ (b : Bool). cond b 1 0 + count_by p h) st
 
 pub count_off : (p : Event → Bool) (e : Event) (h : List Event) → p e ≡ false → count_by p (e ∷ h) ≡ count_by p h
-count_off p e h off = sum_by-cons (λ x. cond (p x) 1 0) e h ∙ ap (λ (b : Bool). cond b 1 0 + count_by p h) off ∙ (let z : 0 + count_by p h ≡ count_by p h = omega arith in z)
+count_off p e h off = sum_by-cons (λ x. cond (p x) 1 0) e h ∙ ap (λ (b : Bool). cond b 1 0 + count_by p h) off
+    ∙ (let z : 0 + count_by p h ≡ count_by p h = omega arith in z)
 
 pub strands_grow : (P : tree.Program) (m : Machine) (h : List Event) (n : Machine) → Leads P m h n → m.strands ≤ n.strands
 strands_grow P m [] n l = let e : m.strands ≡ n.strands = ap (λ (q : Machine). q.strands) l in omega arith
@@ -102,7 +104,8 @@ begun_behind P m (e ∷ h) n v (next, step, rest) le =
       | inr off ↦ count_off (begins_strand v) e h off ∙ ih
     ]
 
-begun_between : (P : tree.Program) (m : Machine) (h : List Event) (n : Machine) (v : ℕ) → Leads P m h n → m.strands ≤ v → v < n.strands → count_by (begins_strand v) h ≡ 1
+begun_between : (P : tree.Program) (m : Machine) (h : List Event) (n : Machine) (v : ℕ) → Leads P m h n → m.strands ≤ v → v < n.strands
+    → count_by (begins_strand v) h ≡ 1
 begun_between P m [] n v l le lt = absurd (let e : m.strands ≡ n.strands = ap (λ (q : Machine). q.strands) l in omega arith)
 begun_between P m (e ∷ h) n v (next, step, rest) le lt =
     let a : next.strands ≡ m.strands + strands_by e.action = strands_rise P m e next step in
@@ -173,7 +176,8 @@ leaving_moves m r (Syncs strand) st may run = omega (arith, may.0)
 leaving_moves m r (Gets _ _ strand) st may run = omega (arith, may.0)
 leaving_moves m r (Ends _) st may run = cc
 
-child_strand : (P : tree.Program) (m : Machine) (r : Running) (a : Action) (t : ℕ) (q : Running) → Permits m r a → Behind m.tasks (child_of P r a) t q → m.strands ≤ q.strand
+child_strand : (P : tree.Program) (m : Machine) (r : Running) (a : Action) (t : ℕ) (q : Running) → Permits m r a → Behind m.tasks (child_of P r a) t q
+    → m.strands ≤ q.strand
 child_strand P m r (Reads _ _) t q may (k, at, is) = cc
 child_strand P m r (Writes _ _) t q may (k, at, is) = cc
 child_strand P m r (Spawns code child kid cont args) t q may (k, at, is) =
@@ -190,9 +194,11 @@ module _ (P : tree.Program) (m : Machine) (e : Event) (n : Machine) (x : IsStep 
 
   -- where each task of the next machine comes from
   pub comes : (t : ℕ) (q : Running) → slice_get n.tasks t ≡ Some q
-      → ((t ≡ e.task) × (acted x.task x.stop e.action ≡ q)) ⊎ (((t ≢ e.task) × (slice_get m.tasks t ≡ Some q)) ⊎ Behind m.tasks (child_of P x.task e.action) t q)
+      → ((t ≡ e.task) × (acted x.task x.stop e.action ≡ q))
+      ⊎ (((t ≢ e.task) × (slice_get m.tasks t ≡ Some q)) ⊎ Behind m.tasks (child_of P x.task e.action) t q)
   comes t q h =
-      get_after m.tasks (child_of P x.task e.action) e.task (acted x.task x.stop e.action) x.task x.present t q (subst (λ (z : Machine). slice_get z.tasks t ≡ Some q) x.gives h)
+      get_after m.tasks (child_of P x.task e.action) e.task (acted x.task x.stop e.action) x.task x.present t q
+      (subst (λ (z : Machine). slice_get z.tasks t ≡ Some q) x.gives h)
 
   pub dead_next : (s : ℕ) → Dead m s → (e.strand ≢ s) × Dead n s
   dead_next s d = (
@@ -265,7 +271,8 @@ count_none v [] f = refl
 count_none v (e ∷ h) f = count_off (leaves_strand v) e h (leaves_not v e (f e (inl refl))) ∙ count_none v h (λ d a. f d (inr a))
 
 -- a history, as one event behind another
-pub shifted : (P : tree.Program) (before : List Event) (m : Machine) (e : Event) (next : Machine) → Leads P (opening P) before m → IsStep P m e next → Leads P (opening P) (before ++ e ∷ []) next
+pub shifted : (P : tree.Program) (before : List Event) (m : Machine) (e : Event) (next : Machine) → Leads P (opening P) before m → IsStep P m e next
+    → Leads P (opening P) (before ++ e ∷ []) next
 shifted P before m e next l step = join P (opening P) before (e ∷ []) next m l (next, step, refl)
 
 left_from : (P : tree.Program) (before h : List Event) (m n : Machine) (v : ℕ) → Leads P (opening P) before m → Leads P m h n → count_by (leaves_strand v) h ≤ 1
@@ -341,9 +348,11 @@ live_next P m e n s x l off =
       | inr ne ↦ record { task = l.task; state = l.state; present = others_stay P m e n l.task l.state x ne l.present; running = l.running; stands = l.stands }
     ]
 
-live_left : (P : tree.Program) (m : Machine) (h : List Event) (n : Machine) (s : ℕ) → Leads P m h n → EachEnded n.tasks → Live m s → 1 ≤ count_by (leaves_strand s) h
+live_left : (P : tree.Program) (m : Machine) (h : List Event) (n : Machine) (s : ℕ) → Leads P m h n → EachEnded n.tasks → Live m s
+    → 1 ≤ count_by (leaves_strand s) h
 live_left P m [] n s l all live =
-    absurd (not_both live.state.value live.running (ended_at m.tasks live.task live.state (subst (λ (z : Machine). EachEnded z.tasks) (sym l) all) live.present))
+    absurd
+    (not_both live.state.value live.running (ended_at m.tasks live.task live.state (subst (λ (z : Machine). EachEnded z.tasks) (sym l) all) live.present))
 live_left P m (e ∷ h) n s (next, step, rest) all live =
     elim (cases_Bool (leaves_strand s e)) [
       | inl st ↦ (let k : count_by (leaves_strand s) (e ∷ h) ≡ 1 + count_by (leaves_strand s) h = count_on (leaves_strand s) e h st in omega arith)
@@ -364,18 +373,32 @@ module _ (P : tree.Program) (m : Machine) (t at : ℕ) (n : Machine) where
       elim (one_of_two s m.strands le lt) [
         | inl e ↦ (
             let q : Running = begins P code args kid x.task.future in
-            record { task = length m.tasks; state = q; present = child_comes P m (ev t at (Spawns code child kid cont args)) n q x refl; running = refl; stands = x.permits.1 ∙ sym e })
+            record {
+              task = length m.tasks;
+              state = q;
+              present = child_comes P m (ev t at (Spawns code child kid cont args)) n q x refl;
+              running = refl;
+              stands = x.permits.1 ∙ sym e;
+            })
         | inr e ↦ acting_live (Spawns code child kid cont args) x s x.running (x.permits.2 ∙ sym e)
       ]
   fresh_live (Creates code child kid cont args) x s le lt =
       elim (one_of_two s m.strands le lt) [
         | inl e ↦ (
             let q : Running = begins P code args kid child in
-            record { task = length m.tasks; state = q; present = child_comes P m (ev t at (Creates code child kid cont args)) n q x refl; running = refl; stands = x.permits.1 ∙ sym e })
+            record {
+              task = length m.tasks;
+              state = q;
+              present = child_comes P m (ev t at (Creates code child kid cont args)) n q x refl;
+              running = refl;
+              stands = x.permits.1 ∙ sym e;
+            })
         | inr e ↦ acting_live (Creates code child kid cont args) x s x.running (x.permits.2 ∙ sym e)
       ]
-  fresh_live (Syncs strand) x s le lt = let e : strand ≡ s = (let z : strand ≡ m.strands = x.permits.0 in omega arith) in acting_live (Syncs strand) x s x.running e
-  fresh_live (Gets f v strand) x s le lt = let e : strand ≡ s = (let z : strand ≡ m.strands = x.permits.0 in omega arith) in acting_live (Gets f v strand) x s x.running e
+  fresh_live (Syncs strand) x s le lt = let e : strand ≡ s =
+      (let z : strand ≡ m.strands = x.permits.0 in omega arith) in acting_live (Syncs strand) x s x.running e
+  fresh_live (Gets f v strand) x s le lt = let e : strand ≡ s =
+      (let z : strand ≡ m.strands = x.permits.0 in omega arith) in acting_live (Gets f v strand) x s x.running e
   fresh_live (Ends _) x s le lt = absurd (omega arith)
 
 more_left : (s : ℕ) (e : Event) (h : List Event) → 1 ≤ count_by (leaves_strand s) h → 1 ≤ count_by (leaves_strand s) (e ∷ h)
@@ -385,7 +408,8 @@ more_left s e h le =
       | inr off ↦ (let k : count_by (leaves_strand s) (e ∷ h) ≡ count_by (leaves_strand s) h = count_off (leaves_strand s) e h off in omega arith)
     ]
 
-new_left : (P : tree.Program) (m : Machine) (h : List Event) (n : Machine) (s : ℕ) → Leads P m h n → EachEnded n.tasks → m.strands ≤ s → s < n.strands → 1 ≤ count_by (leaves_strand s) h
+new_left : (P : tree.Program) (m : Machine) (h : List Event) (n : Machine) (s : ℕ) → Leads P m h n → EachEnded n.tasks → m.strands ≤ s → s < n.strands
+    → 1 ≤ count_by (leaves_strand s) h
 new_left P m [] n s l all le lt = absurd (let e : m.strands ≡ n.strands = ap (λ (q : Machine). q.strands) l in omega arith)
 new_left P m (e ∷ h) n s (next, step, rest) all le lt =
     let a : next.strands ≡ m.strands + strands_by e.action = strands_rise P m e next step in
@@ -397,7 +421,8 @@ new_left P m (e ∷ h) n s (next, step, rest) all le lt =
 first_live : (P : tree.Program) → Live (opening P) 0
 first_live P = record { task = 0; state = begins P (main_of P) [] 0 0; present = refl; running = refl; stands = refl }
 
-whole_from : (P : tree.Program) (h : List Event) (m : Machine) (s : ℕ) → Leads P (opening P) h m → EachEnded m.tasks → s < m.strands → 1 ≤ count_by (leaves_strand s) h
+whole_from : (P : tree.Program) (h : List Event) (m : Machine) (s : ℕ) → Leads P (opening P) h m → EachEnded m.tasks → s < m.strands
+    → 1 ≤ count_by (leaves_strand s) h
 whole_from P h m zero l all lt = live_left P (opening P) h m 0 l all (first_live P)
 whole_from P h m (suc s) l all lt = new_left P (opening P) h m (suc s) l all (omega arith) lt
 

@@ -21,7 +21,8 @@ pub came_on : (P : tree.Program) (past h : List Event) (m n : Machine) → Came 
 came_on P past [] m n c l = subst (λ x. Came P past x) l c
 came_on P past (e ∷ h) m n c (next, step, rest) =
     let k : Came P (reverse h ++ e ∷ past) n = came_on P (e ∷ past) h next n (m, c, step) rest in
-    let same : reverse (e ∷ h) ++ past ≡ reverse h ++ e ∷ past = ap (λ (l : List Event). l ++ past) (reverse-append (e ∷ []) h) ∙ append_assoc (reverse h) (e ∷ []) past in
+    let same : reverse (e ∷ h) ++ past ≡ reverse h ++ e ∷ past =
+    ap (λ (l : List Event). l ++ past) (reverse-append (e ∷ []) h) ∙ append_assoc (reverse h) (e ∷ []) past in
     subst (λ l. Came P l n) (sym same) k
 
 pub came : (P : tree.Program) (h : List Event) (m : Machine) → Leads P (opening P) h m → Came P (reverse h) m

@@ -22,7 +22,8 @@ use Rattle.run_laws.proofs.Holding.{Holder, AllHold, is_filled, numbers, came_ho
 pub ended_is : (m : Machine) (f : ℕ) (v : Value) → ended_with m f ≡ Some v → (r : Running) × (slice_get m.tasks f ≡ Some r) × (r.value ≡ Some v)
 ended_is m f v h = go (slice_get m.tasks f) refl h
   where
-    go : (o : Option Running) → slice_get m.tasks f ≡ o → option_and_then (λ (r : Running). r.value) o ≡ Some v → (r : Running) × (slice_get m.tasks f ≡ Some r) × (r.value ≡ Some v)
+    go : (o : Option Running) → slice_get m.tasks f ≡ o → option_and_then (λ (r : Running). r.value) o ≡ Some v
+        → (r : Running) × (slice_get m.tasks f ≡ Some r) × (r.value ≡ Some v)
     go None e h = cc
     go (Some r) e h = (r, e, h)
 
@@ -53,7 +54,8 @@ not_filled : (b : List ℕ) → is_filled b ≡ false → b ≡ []
 not_filled [] h = refl
 not_filled (x ∷ b) h = cc
 
-module _ (past : List Event) (m : Machine) (x : Mirrors past m) (t : ℕ) (r : Running) (present : slice_get m.tasks t ≡ Some r) (block : block_of past t ≡ r.block) (b : Bool) (closed : b ≡ is_filled r.block) (w : Wish) (out : HandsOut (HoldsValue past t) b w) where
+module _ (past : List Event) (m : Machine) (x : Mirrors past m) (t : ℕ) (r : Running) (present : slice_get m.tasks t ≡ Some r)
+    (block : block_of past t ≡ r.block) (b : Bool) (closed : b ≡ is_filled r.block) (w : Wish) (out : HandsOut (HoldsValue past t) b w) where
   may_act : (a : Action) → structural a ≡ true → Answers w a → Permits m r a → MayAct past t a
   may_act (Reads _ _) st is may = cc
   may_act (Writes _ _) st is may = cc
@@ -80,7 +82,8 @@ module _ (past : List Event) (m : Machine) (x : Mirrors past m) (t : ℕ) (r : R
       (block ∙ not_filled r.block (sym closed ∙ o.1), o.0)
 
 -- a structural step may follow
-pub may_follow : (P : tree.Program) (past : List Event) (m n : Machine) (e : Event) → Mirrors past m → AllHold past m → structural e.action ≡ true → IsStep P m e n → MayFollow past e
+pub may_follow : (P : tree.Program) (past : List Event) (m n : Machine) (e : Event) → Mirrors past m → AllHold past m → structural e.action ≡ true
+    → IsStep P m e n → MayFollow past e
 may_follow P past m n e x h st step =
     let r : Running = step.task in
     let me = x.each e.task r step.present in
@@ -89,14 +92,16 @@ may_follow P past m n e x h st step =
     record {
       stands = me.strand ∙ ap (λ s. Some s) step.strand;
       running = me.last ∙ ap (λ o. option_map (λ (v : Value). r.strand) o) step.running;
-      acts = may_act past m x e.task r step.present me.block step.stop.is_open (k.0 ∙ own.is_open) (wish_of P step.stop) (wish_all (HoldsValue past e.task) (numbers past e.task) P step.stop k.1) e.action st step.answers step.permits;
+      acts = may_act past m x e.task r step.present me.block step.stop.is_open (k.0 ∙ own.is_open) (wish_of P step.stop)
+          (wish_all (HoldsValue past e.task) (numbers past e.task) P step.stop k.1) e.action st step.answers step.permits;
     }
 
 pub came_sound : (P : tree.Program) (past : List Event) (m : Machine) → Came P past m → IsSoundPast (kept_of past)
 came_sound P [] m c = tt
 came_sound P (e ∷ past) m (q, c, step) =
     elim (cases_Bool (structural e.action)) [
-      | inl st ↦ subst IsSoundPast (sym (kept_on past e st)) (came_sound P past q c, may_follow P (kept_of past) q m e (came_mirrors P past q c) (came_holds P past q c) st step)
+      | inl st ↦ subst IsSoundPast (sym (kept_on past e st))
+          (came_sound P past q c, may_follow P (kept_of past) q m e (came_mirrors P past q c) (came_holds P past q c) st step)
       | inr off ↦ subst IsSoundPast (sym (kept_off past e off)) (came_sound P past q c)
     ]
 

@@ -1,5 +1,6 @@
 -- The first task that has not ended is out of steps, or may go on.
-use Rattle.std.proofs.Common.{◌≡◌, ◌≢◌, ℕ, zero, suc, ◌+◌, ◌%◌, ◌<◌, ◌≤◌, Bool, true, false, if◌then◌else◌, List, [], ◌∷◌, length, replicate, ◌⊎◌, inl, inr, refl, sym, ap, ◌∙◌, subst, arith}
+use Rattle.std.proofs.Common.{◌≡◌, ◌≢◌, ℕ, zero, suc, ◌+◌, ◌%◌, ◌<◌, ◌≤◌, Bool, true, false, if◌then◌else◌, List}
+use Rattle.std.proofs.Common.{[], ◌∷◌, length, replicate, ◌⊎◌, inl, inr, refl, sym, ap, ◌∙◌, subst, arith}
 use Rattle.std.specs.Prelude.{ℤ, pos, negsuc, Option, Some, None, IsSome, is_some, option_map, option_and_then, bytes_eq, slice_get}
 use Rattle.std.proofs.lemmas.Nat.{mod_below}
 use Rattle.std.proofs.Math.ListN.{length-set}
@@ -19,7 +20,8 @@ use Rattle.fut_syntax.specs.Trees.{items_of}
 use Rattle.task_machine.specs.Values.{index_of}
 use Rattle.task_machine.specs.Texts.{CellArray, arrays_from, cell_at, cell_count, count_cells, find_cell, task_number}
 use Rattle.task_machine.specs.Variables.{Variables, number_in, slot_at, value_of, value_in, values_in}
-use Rattle.task_machine.specs.State.{TaskState, Wish, ToRead, ToWrite, ToSpawn, ToCreate, ToSync, ToGet, ToEnd, NoWish, local_step, read_of, write_of, spawn_of, create_of, get_of, end_of, wish_of_init, wish_by, first_wish, wish_of, Answers}
+use Rattle.task_machine.specs.State.{TaskState, Wish, ToRead, ToWrite, ToSpawn, ToCreate, ToSync, ToGet, ToEnd, NoWish, local_step, read_of}
+use Rattle.task_machine.specs.State.{write_of, spawn_of, create_of, get_of, end_of, wish_of_init, wish_by, first_wish, wish_of, Answers}
 use Rattle.task_machine.specs.Runs.{StandsWithin, GoesOn, IsMost, StandsAt, IsOutOfSteps}
 use Rattle.task_machine.specs.Machine.{Machine, Running, opening, after, cells_after, ended_with, AllHaveEnded, EachEnded, IsAllowed, IsRunning, Leads, Permits}
 use Rattle.task_machine.proofs.Making.{children_come_later}
@@ -68,7 +70,8 @@ found_if : (b : Bool) (x : ℕ) (o : Option ℕ) (cell : ℕ) → (if b then Som
 found_if true x o cell h = inl (same_Some x cell h)
 found_if false x o cell h = inr h
 
-found_below : (n : ℕ) (items : List tree.Item) (word : List ℕ) (z : ℤ) (cell : ℕ) → ((a : CellArray) → Among a (arrays_from n items) → 0 < a.length) → find_cell (arrays_from n items) word z ≡ Some cell → cell < n + count_cells items
+found_below : (n : ℕ) (items : List tree.Item) (word : List ℕ) (z : ℤ) (cell : ℕ) → ((a : CellArray) → Among a (arrays_from n items) → 0 < a.length)
+    → find_cell (arrays_from n items) word z ≡ Some cell → cell < n + count_cells items
 found_below n [] word z cell f h = cc
 found_below n (tree.CellsOf name size ∷ rest) word z cell f h =
     let some : 0 < size = f (record { name = name; first = n; length = size }) (inl refl) in
@@ -191,7 +194,8 @@ module _ (P : tree.Program) (h : List Event) (m : Machine) (l : Leads P (opening
       }
 
   -- what it waits for has ended
-  ended_of : (t : ℕ) (r : Running) → IsFirst h m t r → (q : ℕ) → q < length m.tasks → (holds_handle (past_of h) t q ≡ true) ⊎ Among q (block_of (past_of h) t) → (v : Value) × (ended_with m q ≡ Some v)
+  ended_of : (t : ℕ) (r : Running) → IsFirst h m t r → (q : ℕ) → q < length m.tasks → (holds_handle (past_of h) t q ≡ true) ⊎ Among q (block_of (past_of h) t)
+      → (v : Value) × (ended_with m q ≡ Some v)
   ended_of t r x q lt why =
       let k : Mirrors (past_of h) m = mirrors P h m l in
       let o = get_some m.tasks q lt in
@@ -331,7 +335,9 @@ module _ (P : tree.Program) (h : List Event) (m : Machine) (l : Leads P (opening
                   let en : List ℕ = english_past (past_of h) in
                   let le : place w.task.strand (english_past (past_of h)) ≤ place o.strand (english_past (past_of h)) = w.low q o run.0 run.1 in
                   let apart' : place w.task.strand (english_past (past_of h)) ≢ place o.strand (english_past (past_of h)) =
-                  λ k. ne ((apart P h m l).own q w.place o w.task run.0 w.present (sym (one_place w.task.strand o.strand (english_past (past_of h)) (in_order w.place w.task w.present) (in_order q o run.0) k))) in
+                  λ k. ne
+                  ((apart P h m l).own q w.place o w.task run.0 w.present
+                  (sym (one_place w.task.strand o.strand (english_past (past_of h)) (in_order w.place w.task w.present) (in_order q o run.0) k))) in
                   place_before w.task.strand o.strand (english_past (past_of h)) (in_order q o run.0) (below _ _ le apart'))
             ]);
       }
@@ -348,8 +354,10 @@ module _ (P : tree.Program) (h : List Event) (m : Machine) (l : Leads P (opening
           | inr b' ↦ elim (cases_eq r.strand q.strand) [
             | inl e ↦ (apart P h m l).own t u r q x.running.0 y.running.0 e
             | inr ne ↦ absurd (
-                let k : place r.strand (english_past (past_of h)) < place q.strand (english_past (past_of h)) = before_place r.strand q.strand (english_past (past_of h)) ne b in
-                let k' : place q.strand (english_past (past_of h)) < place r.strand (english_past (past_of h)) = before_place q.strand r.strand (english_past (past_of h)) (λ e. ne (sym e)) b' in
+                let k : place r.strand (english_past (past_of h)) < place q.strand (english_past (past_of h)) =
+                before_place r.strand q.strand (english_past (past_of h)) ne b in
+                let k' : place q.strand (english_past (past_of h)) < place r.strand (english_past (past_of h)) =
+                before_place q.strand r.strand (english_past (past_of h)) (λ e. ne (sym e)) b' in
                 omega arith)
           ]
         ]

@@ -1,5 +1,6 @@
 -- Laws of legal histories. Lists of events called `past` have the newest event first.
-use Rattle.std.specs.Prelude.{◌≡◌, ◌≢◌, ℕ, ◌<◌, ◌≤◌, Bool, true, ◌==◌, ◌&&◌, List, [], ◌∷◌, ◌++◌, length, count_by, reverse, slice_get, Some, None, option_map, ◌⊎◌, ◌↔◌}
+use Rattle.std.specs.Prelude.{◌≡◌, ◌≢◌, ℕ, ◌<◌, ◌≤◌, Bool, true, ◌==◌, ◌&&◌, List, [], ◌∷◌, ◌++◌}
+use Rattle.std.specs.Prelude.{length, count_by, reverse, slice_get, Some, None, option_map, ◌⊎◌, ◌↔◌}
 use Rattle.fut_base.specs.declared.record.Value.{Value}
 use Rattle.fut_base.specs.declared.record.Value.TheVariants.{Fut}
 use Rattle.fut_base.specs.declared.event.Event.{Event}

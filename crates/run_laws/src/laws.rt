@@ -1,5 +1,7 @@
 //! Laws of legal histories.
-ghost use Rattle.run_laws.specs.Laws.{BegunOnce, ChildrenStandBefore, EndedOnce, EvaluationMakesNoHandle, FirstExists, FirstIsOne, GetsFollowEnds, HandlesAreHeld, HandlesStandBefore, LaterReachesNone, LeftForGood, LeftOnce, LegalIsSound, MirrorsStructure, NoneIsStuck, PathsOutlast, StrandsAreOwn, ValueWasEnded, WellTypedHasCells, WholeLeavesEach};
+ghost use Rattle.run_laws.specs.Laws.{BegunOnce, ChildrenStandBefore, EndedOnce, EvaluationMakesNoHandle, FirstExists, FirstIsOne, GetsFollowEnds};
+ghost use Rattle.run_laws.specs.Laws.{HandlesAreHeld, HandlesStandBefore, LaterReachesNone, LeftForGood, LeftOnce, LegalIsSound, MirrorsStructure};
+ghost use Rattle.run_laws.specs.Laws.{NoneIsStuck, PathsOutlast, StrandsAreOwn, ValueWasEnded, WellTypedHasCells, WholeLeavesEach};
 ghost use Rattle.run_laws.specs.Ready.{ReadyRun, ReadyIsFirst, NoneIsReady, FirstMayGoOn};
 ghost use Rattle.run_laws.specs.Rows.{FutureRow};
 

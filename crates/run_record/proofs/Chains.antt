@@ -50,14 +50,16 @@ takes a x s xs ys e front = record { goes = λ k. ap (λ q. run (a ∷ k) q) fro
 
 -- a symbol stops at the byte in view
 pub halts : (a : Symbol) (x : ℕ) (xs ys : List ℕ) → rule a x ≡ Refuses → xs ≡ x ∷ ys → Stops (a ∷ []) xs xs stop.Fault
-halts a x xs ys e front = record { by = record { stops = λ k. ap (λ q. run (a ∷ k) q) front ∙ numerals.stops a x k ys e ∙ ap (λ q. Some (length q)) (sym front) } }
+halts a x xs ys e front =
+    record { by = record { stops = λ k. ap (λ q. run (a ∷ k) q) front ∙ numerals.stops a x k ys e ∙ ap (λ q. Some (length q)) (sym front) } }
 
 -- none is left
 pub short : (a : Symbol) (s : List Symbol) (xs : List ℕ) → xs ≡ [] → Stops (a ∷ s) xs xs stop.Fault
 short a s xs none = record { by = record { stops = λ k. ap (λ q. run (a ∷ s ++ k) q) none ∙ ap (λ q. Some (length q)) (sym none) } }
 
 -- a symbol took a byte, and what it left was read
-pub read_first : {X T : Type 0} (a : Symbol) (x : ℕ) (s : List Symbol) (text : T → List ℕ) (Within : T → Type 0) (view : X → T) (xs m ys : List ℕ) (r : Result X Stop)
+pub read_first : {X T : Type 0} (a : Symbol) (x : ℕ) (s : List Symbol) (text : T → List ℕ) (Within : T → Type 0) (view : X → T) (xs m ys : List ℕ)
+    (r : Result X Stop)
     → rule a x ≡ Takes s → xs ≡ x ∷ m → ReadOn (x ∷ []) s text Within view m ys r → Read (a ∷ []) text Within view xs ys r
 read_first a x s text Within view xs m ys (Ok v) e front h = (onward (takes a x s xs m e front) h.0, front ∙ h.1, h.2)
 read_first a x s text Within view xs m ys (Err f) e front h = onward_stops (takes a x s xs m e front) h

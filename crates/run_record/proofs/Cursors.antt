@@ -1,5 +1,6 @@
 -- What the first bytes are to the machine.
-use Rattle.std.proofs.Common.{◌≡◌, ℕ, zero, suc, ◌+◌, ◌-◌, ◌*◌, ◌<◌, ◌≤◌, Bool, true, false, nat_eq, List, [], ◌∷◌, ◌++◌, length, drop, refl, sym, ap, subst, ◌∙◌, append_assoc, arith, decimal, Some, None}
+use Rattle.std.proofs.Common.{◌≡◌, ℕ, zero, suc, ◌+◌, ◌-◌, ◌*◌, ◌<◌, ◌≤◌, Bool, true, false, nat_eq, List, [], ◌∷◌}
+use Rattle.std.proofs.Common.{◌++◌, length, drop, refl, sym, ap, subst, ◌∙◌, append_assoc, arith, decimal, Some, None}
 use Rattle.std.proofs.lemmas.Bool.Decides.{nat_tests}
 use Rattle.std.proofs.Math.Seq.{drop-cons}
 use Rattle.std.proofs.lemmas.Fmt.{decimal_digit}
@@ -41,16 +42,19 @@ pub bytes_taken : (n : ℕ) (xs : List ℕ) → n ≤ length xs → Steps (bytes
 bytes_taken n xs h = record { goes = λ k. any_taken n xs k h }
 
 -- one digit more
-pub digit_goes : (k : Kind) (n x : ℕ) (xs ys : List ℕ) → xs ≡ x ∷ ys → 48 ≤ x → x ≤ 57 → 0 < n → n * 10 + (x - 48) ≤ bound k → Steps (Digits k n ∷ []) xs (Digits k (n * 10 + (x - 48)) ∷ []) ys
+pub digit_goes : (k : Kind) (n x : ℕ) (xs ys : List ℕ) → xs ≡ x ∷ ys → 48 ≤ x → x ≤ 57 → 0 < n → n * 10 + (x - 48) ≤ bound k
+    → Steps (Digits k n ∷ []) xs (Digits k (n * 10 + (x - 48)) ∷ []) ys
 digit_goes k n x xs ys e low high some fits =
     let is : x ≡ 48 + (x - 48) = omega arith in
     record { goes = λ s. ap (λ q. run (Digits k n ∷ s) q) (e ∙ ap (λ (b : ℕ). b ∷ ys) is) ∙ next_digit k n (x - 48) s ys some (omega arith) fits }
 
-pub digit_text : (k : Kind) (n x : ℕ) (xs ys : List ℕ) → xs ≡ x ∷ ys → 48 ≤ x → x ≤ 57 → 0 < n → n * 10 + (x - 48) ≤ bound k → decimal n ++ xs ≡ decimal (n * 10 + (x - 48)) ++ ys
+pub digit_text : (k : Kind) (n x : ℕ) (xs ys : List ℕ) → xs ≡ x ∷ ys → 48 ≤ x → x ≤ 57 → 0 < n → n * 10 + (x - 48) ≤ bound k
+    → decimal n ++ xs ≡ decimal (n * 10 + (x - 48)) ++ ys
 digit_text k n x xs ys e low high some fits =
     let is : 48 + (x - 48) ≡ x = omega arith in
     let small = bound_small k in
-    let more : decimal (n * 10 + (x - 48)) ≡ decimal n ++ x ∷ [] = decimal_more n (x - 48) some (omega arith) (omega arith) ∙ ap (λ (b : ℕ). decimal n ++ b ∷ []) is in
+    let more : decimal (n * 10 + (x - 48)) ≡ decimal n ++ x ∷ [] =
+    decimal_more n (x - 48) some (omega arith) (omega arith) ∙ ap (λ (b : ℕ). decimal n ++ b ∷ []) is in
     ap (λ q. decimal n ++ q) e ∙ sym (append_assoc (decimal n) (x ∷ []) ys) ∙ ap (λ q. q ++ ys) (sym more)
 
 -- a first digit and the digits behind it
@@ -92,7 +96,8 @@ other_rule kind.Races n x h not_it = refused_if (nat_eq x 10) (counted kind.Race
 pub count_goes : (k : Kind) (n : ℕ) (xs m ys : List ℕ) → is_count k ≡ true → IsDigits k xs n m → m ≡ 10 ∷ ys → Steps (Number k ∷ []) xs (counted k n) ys
 count_goes k n xs m ys h d e = onward d.goes (takes (Digits k n) 10 (counted k n) m ys (ends_rule k n 10 m ys e d.ends ∙ line_rule k n h) e)
 
-pub count_halts : (k : Kind) (n x : ℕ) (xs m ys : List ℕ) → is_count k ≡ true → IsDigits k xs n m → m ≡ x ∷ ys → (x ≡ 10 → ⊥) → Stops (Number k ∷ []) xs m stop.Fault
+pub count_halts : (k : Kind) (n x : ℕ) (xs m ys : List ℕ) → is_count k ≡ true → IsDigits k xs n m → m ≡ x ∷ ys → (x ≡ 10 → ⊥)
+    → Stops (Number k ∷ []) xs m stop.Fault
 count_halts k n x xs m ys h d e not_it =
     let other : nat_eq x 10 ≡ false = grind (arith, nat_tests) in
     onward_stops d.goes (halts (Digits k n) x m ys (ends_rule k n x m ys e d.ends ∙ other_rule k n x h other) e)

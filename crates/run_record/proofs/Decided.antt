@@ -18,7 +18,8 @@ ended : (s : List Symbol) → at_end s ≡ None → s ≡ []
 ended [] e = refl
 ended (a ∷ k) e = absurd (cc)
 
-by_next : (o : Option (List Symbol)) (x : ℕ) (xs : List ℕ) → ((s : List Symbol) → run s xs ≡ None → walk s xs ≡ Some []) → run_on o (suc (length xs)) (λ s. run s xs) ≡ None → go_on o (λ s. walk s xs) ≡ Some []
+by_next : (o : Option (List Symbol)) (x : ℕ) (xs : List ℕ) → ((s : List Symbol) → run s xs ≡ None → walk s xs ≡ Some [])
+    → run_on o (suc (length xs)) (λ s. run s xs) ≡ None → go_on o (λ s. walk s xs) ≡ Some []
 by_next None x xs ih e = absurd (cc)
 by_next (Some s) x xs ih e = ih s e
 
@@ -52,6 +53,7 @@ none_begins_another xs more a b =
     none_left more (sym goes ∙ passes_through (xs ++ more) b)
 
 pub reads_again : ReadsAgain
-reads_again p es rs f (Ok r) w h = one_value (run_text p es rs f) r.program.items (events_of r.history) r.races.items r.finish p es rs f h (record { within = w; text = refl })
+reads_again p es rs f (Ok r) w h =
+    one_value (run_text p es rs f) r.program.items (events_of r.history) r.races.items r.finish p es rs f h (record { within = w; text = refl })
 reads_again p es rs f (Err (fault.NotRun count)) w h = h.none (p, es, rs, f, record { within = w; text = refl })
 reads_again p es rs f (Err fault.NoMemory) w h = tt

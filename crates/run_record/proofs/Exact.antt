@@ -1,5 +1,6 @@
 -- Where the run stops is the fault. Nothing here names a symbol.
-use Rattle.std.proofs.Common.{◌≡◌, ℕ, zero, suc, ◌-◌, ◌<◌, ◌≤◌, List, [], ◌∷◌, ◌++◌, ◌⊎◌, inl, inr, refl, sym, subst, ap, ◌∙◌, append_assoc, append-nil, length, length-append, take, arith, ⊎_elim, take_at}
+use Rattle.std.proofs.Common.{◌≡◌, ℕ, zero, suc, ◌-◌, ◌<◌, ◌≤◌, List, [], ◌∷◌, ◌++◌, ◌⊎◌, inl, inr, refl, sym, subst}
+use Rattle.std.proofs.Common.{ap, ◌∙◌, append_assoc, append-nil, length, length-append, take, arith, ⊎_elim, take_at}
 use Rattle.std.specs.Prelude.{Option, Some, None}
 use Rattle.run_record.specs.RunText.{run_text}
 use Rattle.run_record.specs.Records.{IsSomeRunText, Begins, IsFault}
@@ -47,7 +48,8 @@ left_most xs s left e =
     omega (arith, r.left_is, ap length r.whole, length-append r.before r.rest)
 
 -- where the machine stops it stops whatever stands behind
-stops_there : (p : List ℕ) (s due : List Symbol) (x : ℕ) (more : List ℕ) → walk s p ≡ Some due → next due x ≡ None → run s (p ++ x ∷ more) ≡ Some (suc (length more))
+stops_there : (p : List ℕ) (s due : List Symbol) (x : ℕ) (more : List ℕ) → walk s p ≡ Some due → next due x ≡ None
+    → run s (p ++ x ∷ more) ≡ Some (suc (length more))
 stops_there [] s due x more e h =
     let same : s ≡ due = cc in
     let none : next s x ≡ None = ap (λ (q : List Symbol). next q x) same ∙ h in
@@ -78,7 +80,8 @@ order zero m = inl (omega arith)
 order (suc n) zero = inr (omega arith)
 order (suc n) (suc m) = ⊎_elim (λ h. inl (omega arith)) (λ h. inr (omega arith)) (order n m)
 
-none_longer : (xs p rest : List ℕ) (due : List Symbol) → xs ≡ p ++ rest → walk all_due p ≡ Some due → (rest ≡ []) ⊎ ((x : ℕ) × (more : List ℕ) × (rest ≡ x ∷ more) × (next due x ≡ None))
+none_longer : (xs p rest : List ℕ) (due : List Symbol) → xs ≡ p ++ rest → walk all_due p ≡ Some due
+    → (rest ≡ []) ⊎ ((x : ℕ) × (more : List ℕ) × (rest ≡ x ∷ more) × (next due x ≡ None))
     → (n : ℕ) → n ≤ length xs → Begins (take n xs) → n ≤ length p
 none_longer xs p rest due whole walked (inl none) n small b =
     omega (arith, small, ap length whole, length-append p rest, ap length none)
@@ -99,6 +102,7 @@ fault xs left e =
     record {
       none = λ t. some_none (run all_due xs) left e (passes_through xs t);
       within = omega arith;
-      begins = subst Begins (sym (ap (λ n. take n xs) count ∙ ap (λ q. take (length r.before) q) r.whole ∙ take_at r.before r.rest (length r.before) refl)) (begins r.before r.due r.walked);
+      begins = subst Begins (sym (ap (λ n. take n xs) count ∙ ap (λ q. take (length r.before) q) r.whole ∙ take_at r.before r.rest (length r.before) refl))
+          (begins r.before r.due r.walked);
       longest = λ n small b. let most = none_longer xs r.before r.rest r.due r.whole r.walked r.bad n small b in omega (arith, most, count);
     }

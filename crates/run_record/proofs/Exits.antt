@@ -1,5 +1,6 @@
 -- Ends of the reader's functions.
-use Rattle.std.proofs.Common.{◌≡◌, ℕ, zero, suc, true, false, ◌&&◌, nat_eq, nat_le, ◌+◌, ◌-◌, ◌<◌, ◌≤◌, ℤ, negsuc, pos, List, [], ◌∷◌, ◌++◌, length, sym, ap, subst, ◌∙◌, arith, decimal, w64, of_z, to_z, to_z-of_z}
+use Rattle.std.proofs.Common.{◌≡◌, ℕ, zero, suc, true, false, ◌&&◌, nat_eq, nat_le, ◌+◌, ◌-◌, ◌<◌, ◌≤◌, ℤ, negsuc, pos, List}
+use Rattle.std.proofs.Common.{[], ◌∷◌, ◌++◌, length, sym, ap, subst, ◌∙◌, arith, decimal, w64, of_z, to_z, to_z-of_z}
 use Rattle.std.specs.Int.Signed.{mag}
 use Rattle.std.proofs.lemmas.Int.{to_z_pos}
 use Rattle.std.specs.Fmt.{signed_decimal}
@@ -8,7 +9,8 @@ use Rattle.std.proofs.lemmas.Fmt.{decimal_digit}
 use Rattle.run_record.specs.declared.cursor.Stop.TheVariants as stop
 use Rattle.run_record.specs.declared.digits.Kind.{Kind}
 use Rattle.run_record.specs.declared.digits.Kind.TheVariants as kind
-use Rattle.run_record.specs.Machine.{Symbol, Number, Digits, Unsigned, Signed, Datum, Takes, Passes, rule, behind_rule, number_rule, signed_rule, by_answer, next, run_on, run}
+use Rattle.run_record.specs.Machine.{Symbol, Number, Digits, Unsigned, Signed, Datum, Takes, Passes, rule}
+use Rattle.run_record.specs.Machine.{behind_rule, number_rule, signed_rule, by_answer, next, run_on, run}
 use Rattle.run_record.specs.Records.{IsSigned}
 use Rattle.run_record.specs.Steps.{Steps, Stops, front, Grew, IsDigits}
 use Rattle.run_record.proofs.Numerals as numerals
@@ -33,13 +35,15 @@ is_minus zero h = absurd (omega arith)
 is_minus (suc n) h = ap (λ (m : ℕ). 45 ∷ decimal m) (omega arith)
 
 -- the digits behind a minus sign, where a byte follows them
-pub minus_goes : (x n y : ℕ) (xs m ys zs : List ℕ) → xs ≡ x ∷ m → 49 ≤ x → x ≤ 57 → Grew kind.Negative (x - 48) m n ys → ys ≡ y ∷ zs → Steps (Unsigned ∷ []) xs [] ys
+pub minus_goes : (x n y : ℕ) (xs m ys zs : List ℕ) → xs ≡ x ∷ m → 49 ≤ x → x ≤ 57 → Grew kind.Negative (x - 48) m n ys → ys ≡ y ∷ zs
+    → Steps (Unsigned ∷ []) xs [] ys
 minus_goes x n y xs m ys zs e low high g f =
     let first : (nat_le 49 x && nat_le x 57) ≡ true = grind (arith, nat_tests) in
     onward (takes Unsigned x (Digits kind.Negative (x - 48) ∷ []) xs m (is_true (nat_le 49 x && nat_le x 57) _ _ first) e)
     (onward g.goes (passes (Digits kind.Negative n) y ys zs (ends_rule kind.Negative n y ys zs f g.ends) f))
 
-pub minus_text : (x n : ℕ) (xs m ys : List ℕ) (z : ℤ) → xs ≡ x ∷ m → 49 ≤ x → x ≤ 57 → Grew kind.Negative (x - 48) m n ys → z ≡ negsuc (n - 1) → 45 ∷ xs ≡ signed_decimal z ++ ys
+pub minus_text : (x n : ℕ) (xs m ys : List ℕ) (z : ℤ) → xs ≡ x ∷ m → 49 ≤ x → x ≤ 57 → Grew kind.Negative (x - 48) m n ys → z ≡ negsuc (n - 1)
+    → 45 ∷ xs ≡ signed_decimal z ++ ys
 minus_text x n xs m ys z e low high g same =
     let is : x ≡ 48 + (x - 48) = omega arith in
     let least = g.least in
@@ -54,7 +58,8 @@ not_minus x h = grind (arith, nat_tests)
 
 -- where no minus sign stands a number without one is due
 pub unsigned_opens : (x : ℕ) (xs ys : List ℕ) → (x ≡ 45 → ⊥) → xs ≡ x ∷ ys → Steps (Signed ∷ []) xs (Number kind.Positive ∷ []) xs
-unsigned_opens x xs ys other e = opens Signed (Number kind.Positive) x xs ys (is_false (nat_eq x 45) (Takes (Unsigned ∷ [])) (number_rule kind.Positive x) (not_minus x other)) e
+unsigned_opens x xs ys other e =
+    opens Signed (Number kind.Positive) x xs ys (is_false (nat_eq x 45) (Takes (Unsigned ∷ [])) (number_rule kind.Positive x) (not_minus x other)) e
 
 not_f : (x : ℕ) → (x ≡ 102 → ⊥) → nat_eq x 102 ≡ false
 not_f x h = grind (arith, nat_tests)

@@ -1,5 +1,6 @@
 -- Decimal numbers and the machine's digits.
-use Rattle.std.proofs.Common.{◌≡◌, ℕ, suc, ◌+◌, ◌-◌, ◌*◌, ◌/◌, ◌%◌, ◌^◌, ◌<◌, ◌≤◌, Bool, true, false, cond, List, [], ◌∷◌, ◌++◌, length, refl, ap, ◌∙◌, append_assoc, arith, decimal, Some}
+use Rattle.std.proofs.Common.{◌≡◌, ℕ, suc, ◌+◌, ◌-◌, ◌*◌, ◌/◌, ◌%◌, ◌^◌, ◌<◌, ◌≤◌, Bool, true, false, cond}
+use Rattle.std.proofs.Common.{List, [], ◌∷◌, ◌++◌, length, refl, ap, ◌∙◌, append_assoc, arith, decimal, Some}
 use Rattle.std.proofs.lemmas.Bool.Decides.{nat_tests}
 use Rattle.std.proofs.lemmas.Fmt.{decimal_step, decimal_by_steps}
 use Rattle.run_record.specs.declared.digits.Kind.{Kind}
@@ -59,10 +60,12 @@ more_byte k n d some low fits = grind (arith, nat_tests, digit_byte d low)
 pub first_digit : (k : Kind) (d : ℕ) (s : List Symbol) (r : List ℕ) → d ≤ 9 → run (Number k ∷ s) ((48 + d) ∷ r) ≡ run (Digits k d ∷ s) r
 first_digit k d s r h =
     let same : 48 + d - 48 ≡ d = omega arith in
-    takes (Number k) (48 + d) (Digits k (48 + d - 48) ∷ []) s r (is_true (is_digit (48 + d)) (Takes (Digits k (48 + d - 48) ∷ [])) Refuses (digit_byte d h)) ∙ ap (λ n. run (Digits k n ∷ s) r) same
+    takes (Number k) (48 + d) (Digits k (48 + d - 48) ∷ []) s r (is_true (is_digit (48 + d)) (Takes (Digits k (48 + d - 48) ∷ [])) Refuses (digit_byte d h))
+    ∙ ap (λ n. run (Digits k n ∷ s) r) same
 
 -- a further digit
-pub next_digit : (k : Kind) (n d : ℕ) (s : List Symbol) (r : List ℕ) → 0 < n → d ≤ 9 → n * 10 + d ≤ bound k → run (Digits k n ∷ s) ((48 + d) ∷ r) ≡ run (Digits k (n * 10 + d) ∷ s) r
+pub next_digit : (k : Kind) (n d : ℕ) (s : List Symbol) (r : List ℕ) → 0 < n → d ≤ 9 → n * 10 + d ≤ bound k
+    → run (Digits k n ∷ s) ((48 + d) ∷ r) ≡ run (Digits k (n * 10 + d) ∷ s) r
 next_digit k n d s r some low fits =
     let same : n * 10 + (48 + d - 48) ≡ n * 10 + d = omega arith in
     takes (Digits k n) (48 + d) (Digits k (n * 10 + (48 + d - 48)) ∷ []) s r

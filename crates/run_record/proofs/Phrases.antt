@@ -12,7 +12,8 @@ use Rattle.run_record.specs.declared.digits.Kind.{Kind}
 use Rattle.run_record.specs.declared.digits.Kind.TheVariants as kind
 use Rattle.run_record.specs.RunText.{value_text, values_line, action_line, entry_line, entry_lines, race_line, race_lines, finish_line, last_text, run_text}
 use Rattle.run_record.specs.Records.{IsNumber, IsSigned, IsValue, AreValues, IsAction, IsEvent, AreEvents, IsRace, AreRaces, IsFinish, IsWithin}
-use Rattle.run_record.specs.Machine.{Symbol, Byte, Any, Number, Digits, Unsigned, Signed, Datum, Arguments, Act', ActOfS, Finish', due, word_due, entry_due, entries_due, race_due, races_due, bytes_due, bound, program_due, history_due, report_due, last_due, all_due}
+use Rattle.run_record.specs.Machine.{Symbol, Byte, Any, Number, Digits, Unsigned, Signed, Datum, Arguments, Act', ActOfS, Finish', due, word_due, entry_due}
+use Rattle.run_record.specs.Machine.{entries_due, race_due, races_due, bytes_due, bound, program_due, history_due, report_due, last_due, all_due}
 use Rattle.run_record.specs.Steps.{program_text, history_text, report_text}
 use Rattle.run_record.proofs.Joined.{whole_is}
 
@@ -30,7 +31,8 @@ abbrev pub Phrase : Symbol → List ℕ → List ℕ → Type 0
 Phrase (Byte b) xs r = xs ≡ b ∷ r
 Phrase Any xs r = (b : ℕ) × (xs ≡ b ∷ r)
 Phrase (Number k) xs r = (n : ℕ) × (m : List ℕ) × (n ≤ bound k) × (xs ≡ decimal n ++ m) × IsCounted k n m r
-Phrase (Digits k v) xs r = (ds : List ℕ) × (n : ℕ) × (m : List ℕ) × (decimal v ++ ds ≡ decimal n) × ((n ≡ v) ⊎ (n ≤ bound k)) × (xs ≡ ds ++ m) × IsCounted k n m r
+Phrase (Digits k v) xs r =
+    (ds : List ℕ) × (n : ℕ) × (m : List ℕ) × (decimal v ++ ds ≡ decimal n) × ((n ≡ v) ⊎ (n ≤ bound k)) × (xs ≡ ds ++ m) × IsCounted k n m r
 Phrase Unsigned xs r = (n : ℕ) × (n < 9223372036854775808) × (xs ≡ decimal (suc n) ++ r)
 Phrase Signed xs r = (z : ℤ) × IsSigned z × (xs ≡ signed_decimal z ++ r)
 Phrase Datum xs r = (v : Value) × IsValue v × (xs ≡ value_text v ++ r)
@@ -57,7 +59,8 @@ pub split_word : (w : List ℕ) (k : List Symbol) (xs r : List ℕ) → Phrases 
 split_word w k xs r h = let two = split (due w) k xs r h in (two.0, word_phrase w xs two.0 two.1, two.2)
 
 -- a word, a number and then other symbols
-pub split_number : (w : List ℕ) (k : List Symbol) (xs r : List ℕ) → Phrases (word_due w ++ k) xs r → (n : ℕ) × (m : List ℕ) × IsNumber n × (xs ≡ w ++ (decimal n ++ m)) × Phrases k m r
+pub split_number : (w : List ℕ) (k : List Symbol) (xs r : List ℕ) → Phrases (word_due w ++ k) xs r
+    → (n : ℕ) × (m : List ℕ) × IsNumber n × (xs ≡ w ++ (decimal n ++ m)) × Phrases k m r
 split_number w k xs r h =
     let two = split (word_due w) k xs r h in
     let number = split_word w (Number kind.Plain ∷ []) xs two.0 two.1 in
@@ -77,21 +80,30 @@ entry_phrase place xs r h =
     let e : Event = record { task = task.0; strand = strand.0; action = act.0 } in (
       e,
       (task.2, strand.2, act.1),
-      front.1 ∙ ap (λ q. decimal place ++ q) (task.3 ∙ ap (λ q. codes " t" ++ (decimal task.0 ++ q)) (strand.3 ∙ ap (λ q. codes " s" ++ (decimal strand.0 ++ q)) (space.1 ∙ ap (λ q. codes " " ++ q) line)))
+      front.1 ∙ ap (λ q. decimal place ++ q)
+          (task.3 ∙ ap (λ q. codes " t" ++ (decimal task.0 ++ q))
+          (strand.3 ∙ ap (λ q. codes " s" ++ (decimal strand.0 ++ q)) (space.1 ∙ ap (λ q. codes " " ++ q) line)))
           ∙ joined place task.0 strand.0 act.0 r,
     )
   where
     joined : (place task strand : ℕ) (a : Action) (r : List ℕ)
-        → decimal place ++ (codes " t" ++ (decimal task ++ (codes " s" ++ (decimal strand ++ (codes " " ++ (action_line a ++ r)))))) ≡ entry_line place (record { task = task; strand = strand; action = a }) ++ r
+        → decimal place ++ (codes " t" ++ (decimal task ++ (codes " s" ++ (decimal strand ++ (codes " " ++ (action_line a ++ r))))))
+        ≡ entry_line place (record { task = task; strand = strand; action = a }) ++ r
     joined place task strand a r = simp append_assoc
 
-pub entries_phrase : (n place : ℕ) (xs r : List ℕ) → Phrases (entries_due place n) xs r → (es : List Event) × (length es ≡ n) × AreEvents es × (xs ≡ entry_lines place es ++ r)
+pub entries_phrase : (n place : ℕ) (xs r : List ℕ) → Phrases (entries_due place n) xs r
+    → (es : List Event) × (length es ≡ n) × AreEvents es × (xs ≡ entry_lines place es ++ r)
 entries_phrase zero place xs r h = ([], refl, tt, h)
 entries_phrase (suc n) place xs r h =
     let two = split (entry_due place) (entries_due (place + 1) n) xs r h in
     let e = entry_phrase place xs two.0 two.1 in
-    let es = entries_phrase n (place + 1) two.0 r two.2 in
-    (e.0 ∷ es.0, ap suc es.1, (e.1, es.2), e.2 ∙ ap (λ q. entry_line place e.0 ++ q) es.3 ∙ sym (append_assoc (entry_line place e.0) (entry_lines (place + 1) es.0) r))
+    let es = entries_phrase n (place + 1) two.0 r two.2 in (
+      e.0 ∷ es.0,
+      ap suc es.1,
+      (e.1, es.2),
+      e.2 ∙ ap (λ q. entry_line place e.0 ++ q) es.3
+          ∙ sym (append_assoc (entry_line place e.0) (entry_lines (place + 1) es.0) r),
+    )
 
 pub race_phrase : (xs r : List ℕ) → Phrases race_due xs r → (q : Race) × IsRace q × (xs ≡ race_line q ++ r)
 race_phrase xs r h =
@@ -101,12 +113,14 @@ race_phrase xs r h =
     let end = word_phrase (codes "\n") second.1 r second.4 in (
       record { cell = cell.0; first = first.0; second = second.0 },
       (cell.2, first.2, second.2),
-      cell.3 ∙ ap (λ q. codes "race " ++ (decimal cell.0 ++ q)) (first.3 ∙ ap (λ q. codes " " ++ (decimal first.0 ++ q)) (second.3 ∙ ap (λ q. codes " " ++ (decimal second.0 ++ q)) end))
+      cell.3 ∙ ap (λ q. codes "race " ++ (decimal cell.0 ++ q))
+          (first.3 ∙ ap (λ q. codes " " ++ (decimal first.0 ++ q)) (second.3 ∙ ap (λ q. codes " " ++ (decimal second.0 ++ q)) end))
           ∙ joined cell.0 first.0 second.0 r,
     )
   where
     joined : (cell first second : ℕ) (r : List ℕ)
-        → codes "race " ++ (decimal cell ++ (codes " " ++ (decimal first ++ (codes " " ++ (decimal second ++ (codes "\n" ++ r)))))) ≡ race_line (record { cell = cell; first = first; second = second }) ++ r
+        → codes "race " ++ (decimal cell ++ (codes " " ++ (decimal first ++ (codes " " ++ (decimal second ++ (codes "\n" ++ r))))))
+        ≡ race_line (record { cell = cell; first = first; second = second }) ++ r
     joined cell first second r = simp append_assoc
 
 pub races_phrase : (n : ℕ) (xs r : List ℕ) → Phrases (races_due n) xs r → (rs : List Race) × (length rs ≡ n) × AreRaces rs × (xs ≡ race_lines rs ++ r)
@@ -122,8 +136,10 @@ bytes_phrase zero xs r h = ([], refl, h)
 bytes_phrase (suc n) xs r h = let p = bytes_phrase n h.0 r h.2 in (h.1.0 ∷ p.0, ap suc p.1, h.1.1 ∙ ap (λ q. h.1.0 ∷ q) p.2)
 
 -- a count behind a word, the end of its line and what was counted
-headed : (w : List ℕ) (n k : ℕ) (xs m rest body end r : List ℕ) → xs ≡ w ++ m → m ≡ decimal n ++ rest → rest ≡ 10 ∷ (body ++ end) → end ≡ r → k ≡ n → xs ≡ w ++ (decimal k ++ (10 ∷ (body ++ r)))
-headed w n k xs m rest body end r a b c d e = a ∙ ap (λ q. w ++ q) (b ∙ ap (λ q. decimal n ++ q) (c ∙ ap (λ q. 10 ∷ (body ++ q)) d) ∙ ap (λ j. decimal j ++ (10 ∷ (body ++ r))) (sym e))
+headed : (w : List ℕ) (n k : ℕ) (xs m rest body end r : List ℕ) → xs ≡ w ++ m → m ≡ decimal n ++ rest → rest ≡ 10 ∷ (body ++ end) → end ≡ r → k ≡ n
+    → xs ≡ w ++ (decimal k ++ (10 ∷ (body ++ r)))
+headed w n k xs m rest body end r a b c d e =
+    a ∙ ap (λ q. w ++ q) (b ∙ ap (λ q. decimal n ++ q) (c ∙ ap (λ q. 10 ∷ (body ++ q)) d) ∙ ap (λ j. decimal j ++ (10 ∷ (body ++ r))) (sym e))
 
 pub program_phrase : (xs r : List ℕ) → Phrases program_due xs r → (p : List ℕ) × (length p ≤ MOST_PROGRAM_BYTES) × (xs ≡ program_text p ++ r)
 program_phrase xs r h =
@@ -180,7 +196,8 @@ last_phrase xs r h =
     joined f r = simp append_assoc
 
 -- what all is due stands for is a run text
-pub whole_phrase : (xs r : List ℕ) → Phrases all_due xs r → (p : List ℕ) × (es : List Event) × (rs : List Race) × (f : Finish) × IsWithin p es rs f × (xs ≡ run_text p es rs f ++ r)
+pub whole_phrase : (xs r : List ℕ) → Phrases all_due xs r → (p : List ℕ) × (es : List Event) × (rs : List Race) × (f : Finish) × IsWithin p es rs f
+    × (xs ≡ run_text p es rs f ++ r)
 whole_phrase xs r h =
     let a = split program_due (history_due ++ (report_due ++ last_due)) xs r h in
     let b = split history_due (report_due ++ last_due) a.0 r a.2 in
@@ -194,5 +211,6 @@ whole_phrase xs r h =
       rs.0,
       f.0,
       record { short = p.1; few = es.1; numbered = es.2; few_races = rs.1; raced = rs.2; finished = f.1 },
-      p.2 ∙ ap (λ q. program_text p.0 ++ q) (es.3 ∙ ap (λ q. history_text es.0 ++ q) (rs.3 ∙ ap (λ q. report_text rs.0 ++ q) f.2)) ∙ whole_is p.0 es.0 rs.0 f.0 r,
+      p.2 ∙ ap (λ q. program_text p.0 ++ q) (es.3 ∙ ap (λ q. history_text es.0 ++ q) (rs.3 ∙ ap (λ q. report_text rs.0 ++ q) f.2))
+          ∙ whole_is p.0 es.0 rs.0 f.0 r,
     )

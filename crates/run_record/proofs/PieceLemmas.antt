@@ -10,7 +10,8 @@ use Rattle.fut_base.proofs.Writing.{writes_after, stopped_early}
 use Rattle.run_record.specs.RunText.{value_text, values_line, call_line, entry_line, action_line}
 
 -- a front and then a rest, which are the whole
-pub front_then : (a b c : Option (List ℕ)) (f g h : ℕ) (front rest all : List ℕ) (r : Wrote) → front ++ rest ≡ all → Writes a b f g front All → Writes b c g h rest r → Writes a c f h all r
+pub front_then : (a b c : Option (List ℕ)) (f g h : ℕ) (front rest all : List ℕ) (r : Wrote) → front ++ rest ≡ all → Writes a b f g front All
+    → Writes b c g h rest r → Writes a c f h all r
 front_then a b c f g h front rest all r is one two =
     subst (λ text. Writes a c f h text r) is (writes_after a b c f g h front rest r one.0 one.1 two)
 
@@ -24,7 +25,8 @@ abbrev pub call_front : List ℕ → ℕ → ℕ → ℕ → ℕ → List ℕ
 call_front word code child kid cont =
     word ++ (decimal code ++ (codes " t" ++ (decimal child ++ (codes " s" ++ (decimal kid ++ (codes " s" ++ (decimal cont ++ [])))))))
 
-pub call_splits : (word : List ℕ) (code child kid cont : ℕ) (args : List Value) → call_front word code child kid cont ++ values_line args ≡ word ++ call_line code child kid cont args
+pub call_splits : (word : List ℕ) (code child kid cont : ℕ) (args : List Value)
+    → call_front word code child kid cont ++ values_line args ≡ word ++ call_line code child kid cont args
 call_splits word code child kid cont args = simp append_assoc
 
 -- what is written of an entry before its act

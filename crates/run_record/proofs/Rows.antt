@@ -31,7 +31,8 @@ races_more (q ∷ rs) r h g = (h.0, races_more rs r h.1 g)
 pub entry_lines_more : (i n : ℕ) (es : List Event) (e : Event) → n ≡ i + length es → entry_lines i (es ++ e ∷ []) ≡ entry_lines i es ++ entry_line n e
 entry_lines_more i n [] e h = append-nil (entry_line i e) ∙ ap (λ m. entry_line m e) (omega (arith, h))
 entry_lines_more i n (q ∷ es) e h =
-    ap (λ l. entry_line i q ++ l) (entry_lines_more (i + 1) n es e (omega (arith, h))) ∙ sym (append_assoc (entry_line i q) (entry_lines (i + 1) es) (entry_line n e))
+    ap (λ l. entry_line i q ++ l) (entry_lines_more (i + 1) n es e (omega (arith, h)))
+    ∙ sym (append_assoc (entry_line i q) (entry_lines (i + 1) es) (entry_line n e))
 
 pub events_more : (es : List Event) (e : Event) → AreEvents es → IsEvent e → AreEvents (es ++ e ∷ [])
 events_more [] e h g = (g, tt)

@@ -1,5 +1,7 @@
 -- What the machine goes through is the beginning of a run text.
-use Rattle.std.proofs.Common.{◌≡◌, ℕ, zero, suc, ◌+◌, ◌-◌, ◌*◌, ◌<◌, ◌≤◌, ◌^◌, ◌⊎◌, inl, inr, ℤ, pos, negsuc, Bool, true, false, cond, nat_eq, nat_lt, nat_le, ◌&&◌, List, [], ◌∷◌, ◌++◌, length, get_or, refl, sym, ap, subst, ◌∙◌, append_assoc, append-nil, arith, decimal, codes, Option, Some, None}
+use Rattle.std.proofs.Common.{◌≡◌, ℕ, zero, suc, ◌+◌, ◌-◌, ◌*◌, ◌<◌, ◌≤◌, ◌^◌, ◌⊎◌, inl, inr, ℤ, pos, negsuc, Bool, true}
+use Rattle.std.proofs.Common.{false, cond, nat_eq, nat_lt, nat_le, ◌&&◌, List, [], ◌∷◌, ◌++◌, length, get_or, refl, sym}
+use Rattle.std.proofs.Common.{ap, subst, ◌∙◌, append_assoc, append-nil, arith, decimal, codes, Option, Some, None}
 use Rattle.std.specs.Fmt.{signed_decimal}
 use Rattle.std.proofs.lemmas.Bool.Decides.{nat_tests}
 use Rattle.std.proofs.lemmas.Fmt.{decimal_digit}
@@ -16,9 +18,13 @@ use Rattle.run_record.specs.declared.digits.Kind.{Kind}
 use Rattle.run_record.specs.declared.digits.Kind.TheVariants as kind
 use Rattle.run_record.specs.RunText.{value_text, values_line, call_line, action_line, entry_lines, race_lines, run_text}
 use Rattle.run_record.specs.Records.{IsNumber, IsSigned, IsCall, IsAction, AreEvents, AreRaces, Begins}
-use Rattle.run_record.specs.Machine.{Symbol, Byte, Any, Number, Digits, Unsigned, Signed, Datum, Arguments, Act', ActOfS, Finish', Answer, Takes, Passes, Refuses, takes_if, due, word_due, numbered_due, access_due, call_due, get_due, end_due, bytes_due, entries_due, races_due, all_due, bound, is_digit, is_more, behind_rule, digits_rule, number_rule, unsigned_rule, signed_rule, datum_rule, arguments_rule, act_rule, act_of_s_rule, finish_rule, rule, by_answer, next, go_on, walk}
+use Rattle.run_record.specs.Machine.{Symbol, Byte, Any, Number, Digits, Unsigned, Signed, Datum, Arguments, Act', ActOfS, Finish', Answer, Takes}
+use Rattle.run_record.specs.Machine.{Passes, Refuses, takes_if, due, word_due, numbered_due, access_due, call_due, get_due, end_due, bytes_due}
+use Rattle.run_record.specs.Machine.{entries_due, races_due, all_due, bound, is_digit, is_more, behind_rule, digits_rule, number_rule, unsigned_rule}
+use Rattle.run_record.specs.Machine.{signed_rule, datum_rule, arguments_rule, act_rule, act_of_s_rule, finish_rule, rule, by_answer, next, go_on, walk}
 use Rattle.run_record.proofs.Numerals.{bound_small, bound_large, decimal_more}
-use Rattle.run_record.proofs.Phrases.{IsCounted, Phrase, Phrases, split, word_phrase, split_word, split_number, bytes_phrase, entries_phrase, races_phrase, whole_phrase}
+use Rattle.run_record.proofs.Phrases.{IsCounted, Phrase, Phrases, split, word_phrase, split_word, split_number}
+use Rattle.run_record.proofs.Phrases.{bytes_phrase, entries_phrase, races_phrase, whole_phrase}
 
 -- a rule's answer makes phrases of the symbol
 abbrev Builds : Symbol → ℕ → Answer → Type 0
@@ -77,11 +83,25 @@ behind_builds kind.Bytes n x = by_if (Digits kind.Bytes n) x (nat_eq x 10) (byte
     let p = bytes_phrase n xs r h in
     ([], n, x ∷ xs, append-nil (decimal n), inl refl, refl, (p.0, p.1, ap (λ q. x ∷ q) p.2 ∙ ap (λ (b : ℕ). b ∷ (p.0 ++ r)) (same_byte x 10 e))))
 behind_builds kind.Entries n x = by_if (Digits kind.Entries n) x (nat_eq x 10) (entries_due 0 n) (λ e xs r h.
-    let es = entries_phrase n 0 xs r h in
-    ([], n, x ∷ xs, append-nil (decimal n), inl refl, refl, (es.0, es.1, es.2, ap (λ q. x ∷ q) es.3 ∙ ap (λ (b : ℕ). b ∷ (entry_lines 0 es.0 ++ r)) (same_byte x 10 e))))
+    let es = entries_phrase n 0 xs r h in (
+      [],
+      n,
+      x ∷ xs,
+      append-nil (decimal n),
+      inl refl,
+      refl,
+      (es.0, es.1, es.2, ap (λ q. x ∷ q) es.3 ∙ ap (λ (b : ℕ). b ∷ (entry_lines 0 es.0 ++ r)) (same_byte x 10 e)),
+    ))
 behind_builds kind.Races n x = by_if (Digits kind.Races n) x (nat_eq x 10) (races_due n) (λ e xs r h.
-    let rs = races_phrase n xs r h in
-    ([], n, x ∷ xs, append-nil (decimal n), inl refl, refl, (rs.0, rs.1, rs.2, ap (λ q. x ∷ q) rs.3 ∙ ap (λ (b : ℕ). b ∷ (race_lines rs.0 ++ r)) (same_byte x 10 e))))
+    let rs = races_phrase n xs r h in (
+      [],
+      n,
+      x ∷ xs,
+      append-nil (decimal n),
+      inl refl,
+      refl,
+      (rs.0, rs.1, rs.2, ap (λ q. x ∷ q) rs.3 ∙ ap (λ (b : ℕ). b ∷ (race_lines rs.0 ++ r)) (same_byte x 10 e)),
+    ))
 
 digits_builds : (k : Kind) (n x : ℕ) → Builds (Digits k n) x (digits_rule k n x)
 digits_builds k n x = by_cond (Digits k n) x (is_more k n x) (Takes (Digits k (n * 10 + (x - 48)) ∷ [])) (behind_rule k n x)
@@ -95,8 +115,16 @@ digits_builds k n x = by_cond (Digits k n) x (is_more k n x) (Takes (Digits k (n
     let some : 0 < n = grind (arith, nat_tests) in
     let fits : n * 10 + (x - 48) ≤ bound k = grind (arith, nat_tests) in
     let is : 48 + (x - 48) ≡ x = omega arith in
-    let more : decimal (n * 10 + (x - 48)) ≡ decimal n ++ x ∷ [] = decimal_more n (x - 48) some (omega arith) (omega (arith, small, fits)) ∙ ap (λ (b : ℕ). decimal n ++ b ∷ []) is in
-    (x ∷ d.0, d.1, d.2, sym (append_assoc (decimal n) (x ∷ []) d.0) ∙ ap (λ q. q ++ d.0) (sym more) ∙ d.3, inr (at_most k (n * 10 + (x - 48)) d.1 fits d.4), ap (λ q. x ∷ q) d.5, subst (λ q. IsCounted k d.1 d.2 q) h.2 d.6))
+    let more : decimal (n * 10 + (x - 48)) ≡ decimal n ++ x ∷ [] =
+    decimal_more n (x - 48) some (omega arith) (omega (arith, small, fits)) ∙ ap (λ (b : ℕ). decimal n ++ b ∷ []) is in (
+      x ∷ d.0,
+      d.1,
+      d.2,
+      sym (append_assoc (decimal n) (x ∷ []) d.0) ∙ ap (λ q. q ++ d.0) (sym more) ∙ d.3,
+      inr (at_most k (n * 10 + (x - 48)) d.1 fits d.4),
+      ap (λ q. x ∷ q) d.5,
+      subst (λ q. IsCounted k d.1 d.2 q) h.2 d.6,
+    ))
     (λ e. behind_builds k n x)
 
 unsigned_builds : (x : ℕ) → Builds Unsigned x (unsigned_rule x)
@@ -120,11 +148,13 @@ unsigned_builds x = by_if Unsigned x (nat_le 49 x && nat_le x 57) (Digits kind.N
         let first : decimal (x - 48) ≡ x ∷ [] = decimal_digit (x - 48) (omega arith) ∙ ap (λ (b : ℕ). b ∷ []) is in
         let text : x ∷ d.0 ≡ decimal d.1 = ap (λ q. q ++ d.0) (sym first) ∙ d.3 in
         let small = at_most kind.Negative (x - 48) d.1 (omega arith) d.4 in
-        from d.1 (x ∷ xs) d.2 r (positive d.1 (x - 48) d.0 (omega arith) d.3 (omega (arith, small)) (omega arith)) small (ap (λ q. x ∷ q) d.5 ∙ ap (λ q. q ++ d.2) text) (d.6 ∙ h.2)
+        from d.1 (x ∷ xs) d.2 r (positive d.1 (x - 48) d.0 (omega arith) d.3 (omega (arith, small)) (omega arith)) small
+        (ap (λ q. x ∷ q) d.5 ∙ ap (λ q. q ++ d.2) text) (d.6 ∙ h.2)
 
 signed_builds : (x : ℕ) → Builds Signed x (signed_rule x)
 signed_builds x = by_cond Signed x (nat_eq x 45) (Takes (Unsigned ∷ [])) (number_rule kind.Positive x)
-    (λ e xs r h. (negsuc h.1.0, omega (arith, h.1.1), ap (λ (b : ℕ). b ∷ xs) (same_byte x 45 e) ∙ ap (λ q. 45 ∷ q) (h.1.2 ∙ ap (λ q. decimal (suc h.1.0) ++ q) h.2)))
+    (λ e xs r h.
+    (negsuc h.1.0, omega (arith, h.1.1), ap (λ (b : ℕ). b ∷ xs) (same_byte x 45 e) ∙ ap (λ q. 45 ∷ q) (h.1.2 ∙ ap (λ q. decimal (suc h.1.0) ++ q) h.2)))
     (λ e. lift (number_rule kind.Positive x) (number_builds kind.Positive x))
   where
     lift : (a : Answer) → Builds (Number kind.Positive) x a → Builds Signed x a
@@ -158,11 +188,13 @@ arguments_builds left x = by_cond (Arguments left) x (nat_eq x 10) (Takes []) (t
       omega (arith, some, few),
       (v.1, vs.2),
       ap (λ (b : ℕ). b ∷ xs) (same_byte x 32 two.0)
-          ∙ ap (λ q. 32 ∷ q) (v.2 ∙ ap (λ q. value_text v.0 ++ q) (vs.3 ∙ ap (λ q. values_line vs.0 ++ q) h.2.2) ∙ sym (append_assoc (value_text v.0) (values_line vs.0) r)),
+          ∙ ap (λ q. 32 ∷ q)
+          (v.2 ∙ ap (λ q. value_text v.0 ++ q) (vs.3 ∙ ap (λ q. values_line vs.0 ++ q) h.2.2) ∙ sym (append_assoc (value_text v.0) (values_line vs.0) r)),
     )))
 
 -- a read or a write behind its first letter
-access_phrase : (w xs r : List ℕ) → Phrases (access_due w) xs r → (n : ℕ) × (z : ℤ) × IsNumber n × IsSigned z × (xs ≡ w ++ (decimal n ++ (codes " " ++ (signed_decimal z ++ (codes "\n" ++ r)))))
+access_phrase : (w xs r : List ℕ) → Phrases (access_due w) xs r → (n : ℕ) × (z : ℤ) × IsNumber n × IsSigned z
+    × (xs ≡ w ++ (decimal n ++ (codes " " ++ (signed_decimal z ++ (codes "\n" ++ r)))))
 access_phrase w xs r h =
     let cell = split_number w (due (codes " ") ++ (Signed ∷ due (codes "\n"))) xs r h in
     let space = split_word (codes " ") (Signed ∷ due (codes "\n")) cell.1 r cell.4 in
@@ -196,12 +228,16 @@ call_phrase w xs r h =
       within = (code.2, child.2, kid.2, cont.2, args.1, args.2);
       text =
           code.3
-          ∙ ap (λ q. w ++ (decimal code.0 ++ q)) (child.3 ∙ ap (λ q. codes " t" ++ (decimal child.0 ++ q)) (kid.3 ∙ ap (λ q. codes " s" ++ (decimal kid.0 ++ q)) (cont.3 ∙ ap (λ q. codes " s" ++ (decimal cont.0 ++ q)) (args.3 ∙ ap (λ q. values_line args.0 ++ q) cont.4.2))))
+          ∙ ap (λ q. w ++ (decimal code.0 ++ q))
+          (child.3 ∙ ap (λ q. codes " t" ++ (decimal child.0 ++ q))
+          (kid.3 ∙ ap (λ q. codes " s" ++ (decimal kid.0 ++ q))
+          (cont.3 ∙ ap (λ q. codes " s" ++ (decimal cont.0 ++ q)) (args.3 ∙ ap (λ q. values_line args.0 ++ q) cont.4.2))))
           ∙ joined code.0 child.0 kid.0 cont.0 args.0;
     }
   where
     joined : (code child kid cont : ℕ) (args : List Value)
-        → w ++ (decimal code ++ (codes " t" ++ (decimal child ++ (codes " s" ++ (decimal kid ++ (codes " s" ++ (decimal cont ++ (values_line args ++ r)))))))) ≡ (w ++ call_line code child kid cont args) ++ r
+        → w ++ (decimal code ++ (codes " t" ++ (decimal child ++ (codes " s" ++ (decimal kid ++ (codes " s" ++ (decimal cont ++ (values_line args ++ r))))))))
+        ≡ (w ++ call_line code child kid cont args) ++ r
     joined code child kid cont args = simp append_assoc
 
 -- a number behind a word, to the end of the line
@@ -222,11 +258,13 @@ get_phrase xs r h =
     let strand = numbered_phrase (codes " s") space.2.0 r space.2.2 in (
       Gets future.0 v.0 strand.0,
       (future.2, v.1, strand.1),
-      ap (λ q. 103 ∷ q) (future.3 ∙ ap (λ q. codes "et f" ++ (decimal future.0 ++ q)) (space.1 ∙ ap (λ q. codes " " ++ q) (v.2 ∙ ap (λ q. value_text v.0 ++ q) strand.2)))
+      ap (λ q. 103 ∷ q)
+          (future.3 ∙ ap (λ q. codes "et f" ++ (decimal future.0 ++ q)) (space.1 ∙ ap (λ q. codes " " ++ q) (v.2 ∙ ap (λ q. value_text v.0 ++ q) strand.2)))
           ∙ joined future.0 v.0 strand.0,
     )
   where
-    joined : (f : ℕ) (v : Value) (s : ℕ) → codes "get f" ++ (decimal f ++ (codes " " ++ (value_text v ++ ((codes " s" ++ (decimal s ++ codes "\n")) ++ r)))) ≡ action_line (Gets f v s) ++ r
+    joined : (f : ℕ) (v : Value) (s : ℕ) → codes "get f" ++ (decimal f ++ (codes " " ++ (value_text v ++ ((codes " s" ++ (decimal s ++ codes "\n")) ++ r))))
+        ≡ action_line (Gets f v s) ++ r
     joined f v s = simp append_assoc
 
 end_phrase : (xs r : List ℕ) → Phrases end_due xs r → (a : Action) × IsAction a × (101 ∷ xs ≡ action_line a ++ r)
@@ -248,7 +286,8 @@ act_of_s_builds x = by_cond ActOfS x (nat_eq x 112) (Takes (call_due (codes "awn
     let n = numbered_phrase (codes "nc s") xs r h in
     (Syncs n.0, n.1, ap (λ (b : ℕ). 115 ∷ b ∷ xs) (same_byte x 121 e) ∙ ap (λ q. 115 ∷ 121 ∷ q) n.2)))
 
-accessed : (w : List ℕ) (n : ℕ) (z : ℤ) (r : List ℕ) → w ++ (decimal n ++ (codes " " ++ (signed_decimal z ++ (codes "\n" ++ r)))) ≡ (w ++ (decimal n ++ (codes " " ++ (signed_decimal z ++ codes "\n")))) ++ r
+accessed : (w : List ℕ) (n : ℕ) (z : ℤ) (r : List ℕ) → w ++ (decimal n ++ (codes " " ++ (signed_decimal z ++ (codes "\n" ++ r))))
+    ≡ (w ++ (decimal n ++ (codes " " ++ (signed_decimal z ++ codes "\n")))) ++ r
 accessed w n z r = simp append_assoc
 
 act_builds : (x : ℕ) → Builds Act' x (act_rule x)
@@ -276,7 +315,8 @@ finish_builds x =
     by_cond Finish' x (nat_eq x 119) _ _
     (λ e xs r h. (finish.Whole, tt, ap (λ (b : ℕ). b ∷ xs) (same_byte x 119 e) ∙ ap (λ q. 119 ∷ q) (word_phrase (codes "hole\n") xs r h)))
     (λ e. by_cond Finish' x (nat_eq x 101) _ _
-    (λ e xs r h. let n = numbered_phrase (codes "vents ") xs r h in (finish.Events n.0, n.1, ap (λ (b : ℕ). b ∷ xs) (same_byte x 101 e) ∙ ap (λ q. 101 ∷ q) n.2))
+    (λ e xs r h. let n = numbered_phrase (codes "vents ") xs r h in
+    (finish.Events n.0, n.1, ap (λ (b : ℕ). b ∷ xs) (same_byte x 101 e) ∙ ap (λ q. 101 ∷ q) n.2))
     (λ e. by_cond Finish' x (nat_eq x 108) _ _
     (λ e xs r h. let n = numbered_phrase (codes "ocal ") xs r h in (finish.Local n.0, n.1, ap (λ (b : ℕ). b ∷ xs) (same_byte x 108 e) ∙ ap (λ q. 108 ∷ q) n.2))
     (λ e. by_if Finish' x (nat_eq x 102) _ (λ e xs r h.
@@ -313,7 +353,8 @@ next_back : (s : List Symbol) (x : ℕ) (s' : List Symbol) → next s x ≡ Some
 next_back [] x s' e = absurd (cc)
 next_back (a ∷ k) x s' e = answer_back a k x (rule a x) (next k x) (builds a x) (next_back k x) s' e
 
-pub walk_some : (xs : List ℕ) (o : Option (List Symbol)) (s' : List Symbol) → go_on o (λ s. walk s xs) ≡ Some s' → (m : List Symbol) × (o ≡ Some m) × (walk m xs ≡ Some s')
+pub walk_some : (xs : List ℕ) (o : Option (List Symbol)) (s' : List Symbol) → go_on o (λ s. walk s xs) ≡ Some s'
+    → (m : List Symbol) × (o ≡ Some m) × (walk m xs ≡ Some s')
 walk_some xs None s' e = absurd (cc)
 walk_some xs (Some m) s' e = (m, refl, e)
 

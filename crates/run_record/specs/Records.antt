@@ -6,7 +6,8 @@ use Rattle.fut_base.specs.declared.record.Race.{Race}
 use Rattle.fut_base.specs.declared.record.Finish.{Finish}
 use Rattle.fut_base.specs.declared.event.Event.{Event}
 use Rattle.fut_base.specs.declared.event.Action.{Action}
-pub use Rattle.fut_base.specs.Bounds.{IsNumber, IsSigned, IsValue, AreValues, IsCallWith, IsActionWith, IsEventWith, AreEventsWith, IsAny, AreNumbered, IsFinish}
+pub use Rattle.fut_base.specs.Bounds.{IsNumber, IsSigned, IsValue, AreValues, IsCallWith, IsActionWith}
+pub use Rattle.fut_base.specs.Bounds.{IsEventWith, AreEventsWith, IsAny, AreNumbered, IsFinish}
 use Rattle.run_record.specs.declared.bounds.TheConstants.{MOST_ARGUMENTS, MOST_RACES}
 use Rattle.run_record.specs.RunText.{run_text}
 

@@ -6,7 +6,8 @@ ghost use Rattle.run_record.specs.RunText.{entry_lines, race_line, race_lines, f
 ghost use Rattle.run_record.specs.Machine.{Finish', entries_due, race_due, races_due, program_due, history_due, report_due, last_due, all_due};
 ghost use Rattle.run_record.specs.Records.{IsRace, IsFinish};
 ghost use Rattle.run_record.specs.Reading.{Reading};
-ghost use Rattle.run_record.specs.Steps.{Read, same, items_of, AreEntries, AreRacesOf, program_text, IsProgram, history_text, IsHistory, report_text, IsReport, whole_text, IsWhole};
+ghost use Rattle.run_record.specs.Steps.{Read, same, items_of, AreEntries, AreRacesOf, program_text, IsProgram};
+ghost use Rattle.run_record.specs.Steps.{history_text, IsHistory, report_text, IsReport, whole_text, IsWhole};
 
 use crate::acts::entry;
 use crate::cursor::{Cursor, Stop, expect};

@@ -2,7 +2,8 @@
 ghost use Rattle.std.specs.Prelude.{◌≡◌, ◌++◌, ◌^◌, ◌<◌, length};
 ghost use Rattle.fut_base.specs.Ports.{Writes};
 ghost use Rattle.fut_base.specs.Events.{action_of, event_of, events_of};
-ghost use Rattle.run_record.specs.RunText.{values_line, call_line, action_line, entry_line, entry_lines, race_line, race_lines, finish_line, head_text, end_text, last_text, run_text};
+ghost use Rattle.run_record.specs.RunText.{values_line, call_line, action_line, entry_line, entry_lines, race_line};
+ghost use Rattle.run_record.specs.RunText.{race_lines, finish_line, head_text, end_text, last_text, run_text};
 
 use crate::pieces::{Piece, write_pieces};
 use fut_base::ports::{Sink, Wrote, write_text};

@@ -14,14 +14,15 @@ use Rattle.fut_base.specs.Dag.{Among, block_after}
 use Rattle.fut_base.specs.Sound.{strands_by, value_by}
 use Rattle.fut_syntax.specs.Trees as tree
 use Rattle.fut_check.specs.Items.{IsWellTyped}
-use Rattle.task_machine.specs.Machine.{Machine, Running, opening, begins, strand_after, acted, child_of, cells_after, after, IsStep, Permits, creates, create_count}
+use Rattle.task_machine.specs.Machine.{Machine, Running, opening, begins, strand_after, acted, child_of}
+use Rattle.task_machine.specs.Machine.{cells_after, after, IsStep, Permits, creates, create_count}
 use Rattle.task_machine.proofs.Leading.{leads_further}
 use Rattle.task_types.specs.Typed.{ArgsFit, ActionFits, any_future}
 use Rattle.task_types.specs.Running.{Passes}
 use Rattle.task_types.proofs.Running.{steps_fit, children_fit}
 use Rattle.task_code.specs.Flat.{Compiled, IsCodeOf}
 use Rattle.task_code.specs.Tasks.{IsStill}
-use Rattle.run_replay.specs.declared.line.Line.{Line}
+use Rattle.run_replay.specs.declared.line.TaskLine.{TaskLine}
 use Rattle.access_shards.specs.Histories.{IsInStep}
 use Rattle.run_laws.specs.Ready.{ready_by, ready_past, ready_of}
 use Rattle.run_laws.proofs.Ready.{ready_run}
@@ -57,21 +58,45 @@ longer h e = length-append h (e ∷ [])
 -- ---- the lines
 
 -- the lines that an action begins are those of its children
-begun_lines : (P : tree.Program) (code : Compiled) (r : Running) (x : Line) (a : Action) (lines : List Line) → IsWellTyped P → IsCodeOf P code → IsLineOf P code x r → ((which : ℕ) (args : List Value) → Passes a which args → ArgsFit any_future P which args) → AreBegun code x.future a lines → AreLinesOf P code lines (child_of P r a)
+begun_lines : (P : tree.Program) (code : Compiled) (r : Running) (x : TaskLine) (a : Action) (lines : List TaskLine) → IsWellTyped P → IsCodeOf P code
+    → IsLineOf P code x r → ((which : ℕ) (args : List Value) → Passes a which args → ArgsFit any_future P which args) → AreBegun code x.future a lines
+    → AreLinesOf P code lines (child_of P r a)
 begun_lines P code r x (Reads _ _) lines typed of l fit b = subst (λ z. AreLinesOf P code z []) (sym b) tt
 begun_lines P code r x (Writes _ _) lines typed of l fit b = subst (λ z. AreLinesOf P code z []) (sym b) tt
 begun_lines P code r x (Syncs _) lines typed of l fit b = subst (λ z. AreLinesOf P code z []) (sym b) tt
 begun_lines P code r x (Gets _ _ _) lines typed of l fit b = subst (λ z. AreLinesOf P code z []) (sym b) tt
 begun_lines P code r x (Ends _) lines typed of l fit b = subst (λ z. AreLinesOf P code z []) (sym b) tt
 begun_lines P code r x (Spawns which child kid cont args) lines typed of l fit (line, is, b) =
-    subst (λ z. AreLinesOf P code z (begins P which args kid r.future ∷ [])) (sym is)
-    (record { args = args; task = b.state P typed of (fit which args (refl, refl)); which = b.which_is; ended = b.runs; strand = b.strand_is; future = b.future_is ∙ l.future; block = b.block; value = b.value }, tt)
+    subst (λ z. AreLinesOf P code z (begins P which args kid r.future ∷ [])) (sym is) (
+      record {
+        args = args;
+        task = b.state P typed of (fit which args (refl, refl));
+        which = b.which_is;
+        ended = b.runs;
+        strand = b.strand_is;
+        future = b.future_is ∙ l.future;
+        block = b.block;
+        value = b.value;
+      },
+      tt,
+    )
 begun_lines P code r x (Creates which child kid cont args) lines typed of l fit (line, is, b) =
-    subst (λ z. AreLinesOf P code z (begins P which args kid child ∷ [])) (sym is)
-    (record { args = args; task = b.state P typed of (fit which args (refl, refl)); which = b.which_is; ended = b.runs; strand = b.strand_is; future = b.future_is; block = b.block; value = b.value }, tt)
+    subst (λ z. AreLinesOf P code z (begins P which args kid child ∷ [])) (sym is) (
+      record {
+        args = args;
+        task = b.state P typed of (fit which args (refl, refl));
+        which = b.which_is;
+        ended = b.runs;
+        strand = b.strand_is;
+        future = b.future_is;
+        block = b.block;
+        value = b.value;
+      },
+      tt,
+    )
 
 -- they are as many as the tasks that it begins
-begun_count : (code : Compiled) (future : ℕ) (a : Action) (lines : List Line) → AreBegun code future a lines → length lines ≡ tasks_by a
+begun_count : (code : Compiled) (future : ℕ) (a : Action) (lines : List TaskLine) → AreBegun code future a lines → length lines ≡ tasks_by a
 begun_count code future (Reads _ _) lines b = ap length b
 begun_count code future (Writes _ _) lines b = ap length b
 begun_count code future (Syncs _) lines b = ap length b
@@ -101,12 +126,25 @@ next_child m r (Creates _ _ _ _ _) tasks is may = may.0 ∙ sym is
 
 -- ---- a step
 
-abbrev pub can_step : (P : tree.Program) (m : Machine) (t : ℕ) (r : Running) (a : Action) → slice_get m.tasks t ≡ Some r → r.value ≡ None → (can : CanAct P m r a) → IsStep P m (record { task = t; strand = r.strand; action = a }) (after P m (record { task = t; strand = r.strand; action = a }) r can.stop)
+abbrev pub can_step : (P : tree.Program) (m : Machine) (t : ℕ) (r : Running) (a : Action) → slice_get m.tasks t ≡ Some r → r.value ≡ None
+    → (can : CanAct P m r a) → IsStep P m (record { task = t; strand = r.strand; action = a })
+    (after P m (record { task = t; strand = r.strand; action = a }) r can.stop)
 can_step P m t r a present runs can =
-    record { task = r; stop = can.stop; present = present; running = runs; strand = refl; stands = can.stands; answers = can.answers; permits = can.permits; gives = refl }
+    record {
+      task = r;
+      stop = can.stop;
+      present = present;
+      running = runs;
+      strand = refl;
+      stands = can.stands;
+      answers = can.answers;
+      permits = can.permits;
+      gives = refl;
+    }
 
 -- a run that has taken an action that the machine permits has made a step
-pub takes_step : (P : tree.Program) (code : Compiled) (h : List Event) (m : Machine) (old new : ReplayNow) (t : ℕ) (a : Action) (e : Event) (r : Running) → IsReplayOf P code h old m → Takes code old new t a e → StillAt code old.lines t → slice_get m.tasks t ≡ Some r → r.value ≡ None → CanAct P m r a
+pub takes_step : (P : tree.Program) (code : Compiled) (h : List Event) (m : Machine) (old new : ReplayNow) (t : ℕ) (a : Action) (e : Event) (r : Running)
+    → IsReplayOf P code h old m → Takes code old new t a e → StillAt code old.lines t → slice_get m.tasks t ≡ Some r → r.value ≡ None → CanAct P m r a
     → (n : Machine) × IsStep P m e n × IsReplayOf P code (h ++ e ∷ []) new n
 takes_step P code h m old new t a e r x k st present runs can =
     let found = task_of_line P code old.lines m.tasks t k.before x.lines k.present in
@@ -117,8 +155,9 @@ takes_step P code h m old new t a e r x k st present runs can =
     let n : Machine = after P m own r can.stop in
     let step : IsStep P m own n = can_step P m t r a present runs can in
     let still : k.before.task.spot.ended ≡ false = l.ended ∙ ap (λ (o : Option Value). is_some o) runs in
-    let fed = k.acts.fed still (subst (λ (z : Line). IsStill code z.task) (same_Some st.0 k.before (sym st.1 ∙ k.present)) st.3) in
-    let fits : ActionFits any_future P k.before.task.which can.stop a = subst (λ w. ActionFits any_future P w can.stop a) (sym l.which) (steps_fit P h m own n x.typed x.leads step) in
+    let fed = k.acts.fed still (subst (λ (z : TaskLine). IsStill code z.task) (same_Some st.0 k.before (sym st.1 ∙ k.present)) st.3) in
+    let fits : ActionFits any_future P k.before.task.which can.stop a =
+    subst (λ w. ActionFits any_future P w can.stop a) (sym l.which) (steps_fit P h m own n x.typed x.leads step) in
     let line : IsLineOf P code k.after (acted r can.stop a) =
     record {
       args = l.args;
@@ -130,13 +169,17 @@ takes_step P code h m old new t a e r x k st present runs can =
       block = k.acts.block ∙ ap (block_after a) l.block;
       value = k.acts.value ∙ ap (value_by a) l.value;
     } in
-    let begun = begun_lines P code r k.before a k.begun x.typed x.code_is l (λ which args p. children_fit P h m own n which args x.typed x.leads step p) k.are_begun in
-    let lines = add_lines P code (slice_set old.lines t k.after) k.begun (slice_set m.tasks t (acted r can.stop a)) (child_of P r a) (set_line P code old.lines m.tasks t k.after (acted r can.stop a) x.lines line) begun in
+    let begun = begun_lines P code r k.before a k.begun x.typed x.code_is l
+    (λ which args p. children_fit P h m own n which args x.typed x.leads step p) k.are_begun in
+    let lines = add_lines P code (slice_set old.lines t k.after) k.begun (slice_set m.tasks t (acted r can.stop a)) (child_of P r a)
+    (set_line P code old.lines m.tasks t k.after (acted r can.stop a) x.lines line) begun in
     let more = few_begun a in
     let size = ap length k.lines ∙ (length-append (slice_set old.lines t k.after) k.begun ∙ ap (λ s. s + length k.begun) (set_length old.lines t k.after)) in
-    let count : length new.lines ≡ length old.lines + tasks_by a = size ∙ ap (λ s. length old.lines + s) (begun_count code k.before.future a k.begun k.are_begun) in
+    let count : length new.lines ≡ length old.lines + tasks_by a =
+    size ∙ ap (λ s. length old.lines + s) (begun_count code k.before.future a k.begun k.are_begun) in
     let there : Among t (ready_of h) = (ready_run P h m t x.leads).1 (r, (present, runs)) in
-    let ring = k.ready (length old.lines) (ready_of h) (record { ring = x.ready; there = there }) (next_child m r a (length old.lines) (count_lines P code old.lines m.tasks x.lines) can.permits) in
+    let ring = k.ready (length old.lines) (ready_of h) (record { ring = x.ready; there = there })
+    (next_child m r a (length old.lines) (count_lines P code old.lines m.tasks x.lines) can.permits) in
     let few = x.few in
     let made = x.made in
     let two = strands_few a in
@@ -154,7 +197,8 @@ takes_step P code h m old new t a e r x k st present runs can =
         strands = k.strands ∙ ap (λ s. s + strands_by a) x.strands;
         entries = k.entries ∙ (ap (λ s. s + 1) x.entries ∙ sym (longer h own));
         creates = k.creates_are ∙ (ap (λ s. s + creates_by (creates a)) x.creates ∙ sym (creates_further h own));
-        ready = subst (λ ts. IsRing (length new.lines) ts new.ready) (sym (ready_further h own)) (subst (λ s. IsRing s (ready_by t a (ready_of h)) new.ready) (sym count) ring);
+        ready = subst (λ ts. IsRing (length new.lines) ts new.ready) (sym (ready_further h own))
+            (subst (λ s. IsRing s (ready_by t a (ready_of h)) new.ready) (sym count) ring);
         few = omega (arith, more, count, few, one);
         made = omega (arith, made, two, one, strands);
         found = subst (λ (d : Event). Finds old.finder new.finder d) is k.finds h x.found (in_step_further P h m n own x.leads step x.found.steps);
@@ -165,7 +209,8 @@ takes_step P code h m old new t a e r x k st present runs can =
     at t s a = record { task = t; strand = s; action = a }
 
 -- the finder of a run may take the event of a task that may act so
-pub may_find : (code : Compiled) (now : ReplayNow) (t : ℕ) (a : Action) (x : Line) (e : Event) (k : IsLegalAct code now t a) → slice_get now.lines t ≡ Some x → e ≡ record { task = t; strand = x.strand; action = a } → IsInStep (k.history ++ e ∷ [])
+pub may_find : (code : Compiled) (now : ReplayNow) (t : ℕ) (a : Action) (x : TaskLine) (e : Event) (k : IsLegalAct code now t a)
+    → slice_get now.lines t ≡ Some x → e ≡ record { task = t; strand = x.strand; action = a } → IsInStep (k.history ++ e ∷ [])
 may_find code now t a x e k present is =
     let found = task_of_line k.program code now.lines k.machine.tasks t x k.replay.lines present in
     let same : found.0 ≡ k.task = same_Some found.0 k.task (sym found.1 ∙ k.running.0) in

@@ -20,19 +20,20 @@ use Rattle.task_frame.specs.Frames.{Held}
 use Rattle.task_code.specs.Flat.{Compiled, code_of}
 use Rattle.task_code.specs.Tasks.{TaskNow, IsTaskOf, IsSomeTask, IsStill, StopsAt, Wishes, ended_after, moves, trace_events}
 use Rattle.task_code.specs.declared.task.Wish as asked
-use Rattle.run_replay.specs.declared.line.Line.{Line}
+use Rattle.run_replay.specs.declared.line.TaskLine.{TaskLine}
 use Rattle.run_replay.specs.Replays.{ReplayNow, IsEvent, IsReplayOf, IsSomeReplay, RunsAt}
 use Rattle.run_replay.proofs.Lining.{task_of_line}
 
-pub some_task : (code : Compiled) (now : ReplayNow) (t : ℕ) (x : Line) → IsSomeReplay code now → slice_get now.lines t ≡ Some x → IsSomeTask code x.task
+pub some_task : (code : Compiled) (now : ReplayNow) (t : ℕ) (x : TaskLine) → IsSomeReplay code now → slice_get now.lines t ≡ Some x → IsSomeTask code x.task
 some_task code now t x (P, h, m, k) present =
     let found = task_of_line P code now.lines m.tasks t x k.lines present in
     (P, found.2.args, found.0.state, k.code_is, found.2.task)
 
-pub still_runs : (lines : List Line) (t : ℕ) (x : Line) → RunsAt lines t → slice_get lines t ≡ Some x → x.task.spot.ended ≡ false
-still_runs lines t x (line, present, runs) e = subst (λ (l : Line). l.task.spot.ended ≡ false) (same_Some line x (sym present ∙ e)) runs
+pub still_runs : (lines : List TaskLine) (t : ℕ) (x : TaskLine) → RunsAt lines t → slice_get lines t ≡ Some x → x.task.spot.ended ≡ false
+still_runs lines t x (line, present, runs) e = subst (λ (l : TaskLine). l.task.spot.ended ≡ false) (same_Some line x (sym present ∙ e)) runs
 
-pub wishes_of : (P : tree.Program) (code : Compiled) (h : List Event) (now : ReplayNow) (m : Machine) (t : ℕ) (x : Line) (r : Running) (w : asked.Wish) → IsReplayOf P code h now m → slice_get now.lines t ≡ Some x → slice_get m.tasks t ≡ Some r
+pub wishes_of : (P : tree.Program) (code : Compiled) (h : List Event) (now : ReplayNow) (m : Machine) (t : ℕ) (x : TaskLine) (r : Running) (w : asked.Wish)
+    → IsReplayOf P code h now m → slice_get now.lines t ≡ Some x → slice_get m.tasks t ≡ Some r
     → ((args : List Value) (s : TaskState) → IsTaskOf P code args x.task s → Wishes P MOST_LOCAL_STEPS s w) → Wishes P MOST_LOCAL_STEPS r.state w
 wishes_of P code h now m t x r w k present is wishes =
     let found = task_of_line P code now.lines m.tasks t x k.lines present in
@@ -51,7 +52,8 @@ stops_still code task (wish.End _) s e = s
 stops_still code task wish.Long s e = absurd e
 
 -- tasks that show the same but for the room of their trace are in the same states
-pub same_state : (P : tree.Program) (code : Compiled) (args : List Value) (old new : TaskNow) (s : TaskState) → new.which ≡ old.which → new.spot ≡ old.spot → new.held ≡ old.held → new.trace.items ≡ old.trace.items → IsTaskOf P code args old s → IsTaskOf P code args new s
+pub same_state : (P : tree.Program) (code : Compiled) (args : List Value) (old new : TaskNow) (s : TaskState) → new.which ≡ old.which → new.spot ≡ old.spot
+    → new.held ≡ old.held → new.trace.items ≡ old.trace.items → IsTaskOf P code args old s → IsTaskOf P code args new s
 same_state P code args old new s which spot held trace x =
     subst (λ w. IsTaskOf P code args (shows new.number w new.spot new.held new.trace) s) (sym which)
     (subst (λ p. IsTaskOf P code args (shows new.number old.which p new.held new.trace) s) (sym spot)

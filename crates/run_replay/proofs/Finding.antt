@@ -20,7 +20,8 @@ stands_here P h m n e leads step =
     }
 
 -- a history in step is in step with a step more
-pub in_step_further : (P : tree.Program) (h : List Event) (m n : Machine) (e : Event) → Leads P (opening P) h m → IsStep P m e n → IsInStep h → IsInStep (h ++ e ∷ [])
+pub in_step_further : (P : tree.Program) (h : List Event) (m n : Machine) (e : Event) → Leads P (opening P) h m → IsStep P m e n → IsInStep h
+    → IsInStep (h ++ e ∷ [])
 in_step_further P h m n e leads step steps =
     record {
       sound = legal_is_sound P (h ++ e ∷ []) (n, leads_further P (opening P) h e m n leads step);

@@ -123,7 +123,8 @@ record Ended (P : tree.Program) (limits : Limits) (h : List Event) (m : Machine)
   stops : Stops P limits h m f
 
 no_more : (P : tree.Program) (limits : Limits) (past : List Event) (e : Event) (g : List Event) (m n : Machine) (f k : Finish)
-    → Leads P (opening P) (reverse past) m → IsTurn P past e → Leads P m (e ∷ g) n → Ended P limits (reverse past ++ []) m f → Ended P limits (reverse past ++ e ∷ g) n k → ⊥
+    → Leads P (opening P) (reverse past) m → IsTurn P past e → Leads P m (e ∷ g) n → Ended P limits (reverse past ++ []) m f
+    → Ended P limits (reverse past ++ e ∷ g) n k → ⊥
 no_more P limits past e g m n f k leads (m', r, leads', first) (next, step, rest) x y =
     let same = leads_to_one P (opening P) (reverse past) m' m leads' leads in
     let here = sym (append_assoc (reverse past) (e ∷ []) g) in
@@ -150,9 +151,12 @@ one_history P limits past (d ∷ h) [] m a b f k leads x y to_a to_b p q =
 one_history P limits past (d ∷ h) (e ∷ g) m a b f k leads x y (n, step, to_a) (n', step', to_b) p q =
     let same : d ≡ e = one_event P m n n' d e (same_turn P past d e x.0 y.0) step step' in
     let next : n' ≡ n = step_is_one P m d n' n (subst (λ c. IsStep P m c n') (sym same) step') step in
-    let further : Leads P (opening P) (reverse (d ∷ past)) n = subst (λ l. Leads P (opening P) l n) (sym (reverse-append (d ∷ []) past)) (leads_further P (opening P) (reverse past) d m n leads step) in
-    let rest = one_history P limits (d ∷ past) h g n a b f k further x.1 (subst (λ c. GoOn P (c ∷ past) g) (sym same) y.1) to_a (subst (λ c. Leads P c g b) next to_b)
-    (subst (λ l. Ended P limits l a f) (pushed past d h) p) (subst (λ l. Ended P limits l b k) (pushed past d g) (subst (λ c. Ended P limits (reverse past ++ c ∷ g) b k) (sym same) q)) in
+    let further : Leads P (opening P) (reverse (d ∷ past)) n =
+    subst (λ l. Leads P (opening P) l n) (sym (reverse-append (d ∷ []) past)) (leads_further P (opening P) (reverse past) d m n leads step) in
+    let rest = one_history P limits (d ∷ past) h g n a b f k further x.1 (subst (λ c. GoOn P (c ∷ past) g) (sym same) y.1) to_a
+    (subst (λ c. Leads P c g b) next to_b)
+    (subst (λ l. Ended P limits l a f) (pushed past d h) p)
+    (subst (λ l. Ended P limits l b k) (pushed past d g) (subst (λ c. Ended P limits (reverse past ++ c ∷ g) b k) (sym same) q)) in
     cc
 
 -- ---- one cause
@@ -161,13 +165,15 @@ one_history P limits past (d ∷ h) (e ∷ g) m a b f k leads x y (n, step, to_a
 out_and_allowed : (P : tree.Program) (m : Machine) (t : ℕ) (r : Running) → IsRunning m t r → IsOutOfSteps r.state → IsAllowed P m t → ⊥
 out_and_allowed P m t r run out (e, is, n, step) = not_out P m n e r (subst (λ x. IsRunning m x r) (sym is) run) step out
 
-out_and_full : (P : tree.Program) (limits : Limits) (h : List Event) (m : Machine) (t : ℕ) (r : Running) → IsRunning m t r → IsOutOfSteps r.state → IsFull P limits h m t → ⊥
+out_and_full : (P : tree.Program) (limits : Limits) (h : List Event) (m : Machine) (t : ℕ) (r : Running) → IsRunning m t r → IsOutOfSteps r.state
+    → IsFull P limits h m t → ⊥
 out_and_full P limits h m t r run out full =
     let same : r ≡ full.task = one_task m t t r full.task refl run full.running in
     let (stop, code, args, stands, is) = full.wishes in
     stands_or_goes_on full.task.state stop stands (subst (λ (x : Running). IsOutOfSteps x.state) same out)
 
-one_spent : (P : tree.Program) (limits : Limits) (h : List Event) (m : Machine) (t : ℕ) (f k : Finish) → IsSpent P limits h m t f → IsSpent P limits h m t k → f ≡ k
+one_spent : (P : tree.Program) (limits : Limits) (h : List Event) (m : Machine) (t : ℕ) (f k : Finish) → IsSpent P limits h m t f → IsSpent P limits h m t k
+    → f ≡ k
 one_spent P limits h m t finish.Whole k x y = absurd x
 one_spent P limits h m t (finish.Events b) finish.Whole x y = absurd y
 one_spent P limits h m t (finish.Events b) (finish.Events c) x y = let e : b ≡ c = x.0 ∙ sym y.0 in cc
@@ -192,7 +198,8 @@ why P limits h m (finish.Events b) s = inr s
 why P limits h m (finish.Local u) s = inr s
 why P limits h m (finish.Futures u) s = inr s
 
-one_why : (P : tree.Program) (limits : Limits) (h : List Event) (m : Machine) (f k : Finish) → Leads P (opening P) h m → Why P limits h m f → Why P limits h m k → f ≡ k
+one_why : (P : tree.Program) (limits : Limits) (h : List Event) (m : Machine) (f k : Finish) → Leads P (opening P) h m → Why P limits h m f
+    → Why P limits h m k → f ≡ k
 one_why P limits h m f k leads (inl (all, is)) (inl (all', is')) = is ∙ sym is'
 one_why P limits h m f k leads (inl (all, is)) (inr (t, r, first, spent)) = absurd (not_ended m t r all first.running)
 one_why P limits h m f k leads (inr (t, r, first, spent)) (inl (all, is)) = absurd (not_ended m t r all first.running)
@@ -200,7 +207,8 @@ one_why P limits h m f k leads (inr (t, r, first, spent)) (inr (u, q, first', sp
     let same = first_is_one P h m u t q r leads first' first in
     one_spent P limits h m t f k spent (subst (λ n. IsSpent P limits h m n k) same spent')
 
-one_cause : (P : tree.Program) (limits : Limits) (h : List Event) (m : Machine) (f k : Finish) → Leads P (opening P) h m → Stops P limits h m f → Stops P limits h m k → f ≡ k
+one_cause : (P : tree.Program) (limits : Limits) (h : List Event) (m : Machine) (f k : Finish) → Leads P (opening P) h m → Stops P limits h m f
+    → Stops P limits h m k → f ≡ k
 one_cause P limits h m f k leads x y = one_why P limits h m f k leads (why P limits h m f x) (why P limits h m k y)
 
 -- ---- one run
@@ -211,13 +219,18 @@ ended P limits h f cells x = record { few = x.few; creates_few = x.creates_few; 
 goes_on : (P : tree.Program) (h : List Event) → IsSerial P h → GoOn P [] h
 goes_on P h x = onward P [] h (subst (IsSerialPast P) (sym (append-nil (reverse h))) x)
 
-one_end : (P : tree.Program) (limits : Limits) (h : List Event) (f k : Finish) (cells values : List ℤ) → IsSerialRun P limits h f cells → IsSerialRun P limits h k values → (f ≡ k) × (cells ≡ values)
+one_end : (P : tree.Program) (limits : Limits) (h : List Event) (f k : Finish) (cells values : List ℤ) → IsSerialRun P limits h f cells
+    → IsSerialRun P limits h k values → (f ≡ k) × (cells ≡ values)
 one_end P limits h f k cells values x y =
-    let same : y.machine ≡ x.machine = leads_to_one P (opening P) h y.machine x.machine y.leads x.leads in
-    (one_cause P limits h x.machine f k x.leads x.stops (subst (λ n. Stops P limits h n k) same y.stops), x.cells_are ∙ (ap (λ (m : Machine). m.cells) (sym same) ∙ sym y.cells_are))
+    let same : y.machine ≡ x.machine = leads_to_one P (opening P) h y.machine x.machine y.leads x.leads in (
+      one_cause P limits h x.machine f k x.leads x.stops (subst (λ n. Stops P limits h n k) same y.stops),
+      x.cells_are
+          ∙ (ap (λ (m : Machine). m.cells) (sym same) ∙ sym y.cells_are),
+    )
 
 pub serial_is_one : SerialIsOne
 serial_is_one P limits h g f e cells values x y =
-    let same : h ≡ g = one_history P limits [] h g (opening P) x.machine y.machine f e refl (goes_on P h x.serial) (goes_on P g y.serial) x.leads y.leads (ended P limits h f cells x) (ended P limits g e values y) in
+    let same : h ≡ g = one_history P limits [] h g (opening P) x.machine y.machine f e refl (goes_on P h x.serial) (goes_on P g y.serial) x.leads y.leads
+    (ended P limits h f cells x) (ended P limits g e values y) in
     let end = one_end P limits h f e cells values x (subst (λ l. IsSerialRun P limits l e values) (sym same) y) in
     (same, end.0, end.1)

@@ -36,9 +36,15 @@ is_for : (m : Machine) (r : Running) (w : Wish) (a : Action) → Answers w a →
 is_for m r w (Reads cell value) is may = ap (action_for m) is ∙ ap (λ (o : Option ℤ). option_map (λ v. Reads cell v) o) may
 is_for m r w (Writes cell value) is may = ap (action_for m) is
 is_for m r w (Spawns code child kid cont args) is (c, k, n) =
-    ap (action_for m) is ∙ (ap (λ x. Some (Spawns code x m.strands (m.strands + 1) args)) (sym c) ∙ (ap (λ x. Some (Spawns code child x (m.strands + 1) args)) (sym k) ∙ ap (λ x. Some (Spawns code child kid x args)) (sym n)))
+    ap (action_for m) is
+    ∙
+    (ap (λ x. Some (Spawns code x m.strands (m.strands + 1) args)) (sym c)
+    ∙ (ap (λ x. Some (Spawns code child x (m.strands + 1) args)) (sym k) ∙ ap (λ x. Some (Spawns code child kid x args)) (sym n)))
 is_for m r w (Creates code child kid cont args) is (c, k, n) =
-    ap (action_for m) is ∙ (ap (λ x. Some (Creates code x m.strands (m.strands + 1) args)) (sym c) ∙ (ap (λ x. Some (Creates code child x (m.strands + 1) args)) (sym k) ∙ ap (λ x. Some (Creates code child kid x args)) (sym n)))
+    ap (action_for m) is
+    ∙
+    (ap (λ x. Some (Creates code x m.strands (m.strands + 1) args)) (sym c)
+    ∙ (ap (λ x. Some (Creates code child x (m.strands + 1) args)) (sym k) ∙ ap (λ x. Some (Creates code child kid x args)) (sym n)))
 is_for m r w (Syncs strand) is may = ap (action_for m) is ∙ ap (λ x. Some (Syncs x)) (sym may.0)
 is_for m r w (Gets future value strand) is may =
     ap (action_for m) is ∙ (ap (λ (o : Option Value). option_map (λ v. Gets future v m.strands) o) may.1 ∙ ap (λ x. Some (Gets future value x)) (sym may.0))
@@ -47,13 +53,17 @@ is_for m r w (Ends value) is may = ap (action_for m) is
 pub one_action : (P : tree.Program) (m : Machine) (r : Running) (a b : Action) → CanAct P m r a → CanAct P m r b → a ≡ b
 one_action P m r a b x y =
     let same = stands_at_one r.state x.stop y.stop x.stands y.stands in
-    same_Some a b (sym (is_for m r (wish_of P x.stop) a x.answers x.permits) ∙ (ap (λ s. action_for m (wish_of P s)) same ∙ is_for m r (wish_of P y.stop) b y.answers y.permits))
+    same_Some a b
+    (sym (is_for m r (wish_of P x.stop) a x.answers x.permits)
+    ∙ (ap (λ s. action_for m (wish_of P s)) same ∙ is_for m r (wish_of P y.stop) b y.answers y.permits))
 
 -- an event that is a step is of its task, which may do it
-pub steps_can : (P : tree.Program) (m n : Machine) (e : Event) (r : Running) → IsRunning m e.task r → IsStep P m e n → CanAct P m r e.action × (r.strand ≡ e.strand)
+pub steps_can : (P : tree.Program) (m n : Machine) (e : Event) (r : Running) → IsRunning m e.task r → IsStep P m e n
+    → CanAct P m r e.action × (r.strand ≡ e.strand)
 steps_can P m n e r run step =
     let same : step.task ≡ r = same_Some step.task r (sym step.present ∙ run.0) in
-    subst (λ (q : Running). CanAct P m q e.action × (q.strand ≡ e.strand)) same (record { stop = step.stop; stands = step.stands; answers = step.answers; permits = step.permits }, step.strand)
+    subst (λ (q : Running). CanAct P m q e.action × (q.strand ≡ e.strand)) same
+    (record { stop = step.stop; stands = step.stands; answers = step.answers; permits = step.permits }, step.strand)
 
 module _ (P : tree.Program) (code : Compiled) (h : List Event) (now : ReplayNow) (m : Machine) (x : IsReplayOf P code h now m) (e : Event) where
   pub none_runs : is_running (slice_get now.lines e.task) ≡ false → IsNoStep P m e
@@ -69,14 +79,17 @@ too_long P m e r run w n step =
     let can = (steps_can P m n e r run step).0 in
     stands_or_goes_on r.state can.stop can.stands (MOST_LOCAL_STEPS, refl, w)
 
-pub must_wait : (P : tree.Program) (m : Machine) (e : Event) (r : Running) (w : asked.Wish) (o : Option ℕ) → IsRunning m e.task r → Wishes P MOST_LOCAL_STEPS r.state w → IsBarred m r w o → IsNoStep P m e
+pub must_wait : (P : tree.Program) (m : Machine) (e : Event) (r : Running) (w : asked.Wish) (o : Option ℕ) → IsRunning m e.task r
+    → Wishes P MOST_LOCAL_STEPS r.state w → IsBarred m r w o → IsNoStep P m e
 must_wait P m e r w o run wishes b n step = (waiting P m e.task r w o run wishes b).barred (e, refl, n, step)
 
-pub other_action : (P : tree.Program) (m : Machine) (e : Event) (r : Running) (a : Action) → IsRunning m e.task r → CanAct P m r a → (a ≡ e.action → ⊥) → IsNoStep P m e
+pub other_action : (P : tree.Program) (m : Machine) (e : Event) (r : Running) (a : Action) → IsRunning m e.task r → CanAct P m r a → (a ≡ e.action → ⊥)
+    → IsNoStep P m e
 other_action P m e r a run can differ n step = differ (one_action P m r a e.action can (steps_can P m n e r run step).0)
 
 pub has_made : (P : tree.Program) (code : Compiled) (h : List Event) (m : Machine) (first old new : ReplayNow) (e own : Event) (a : Action) (r : Running)
-    → IsReplayOf P code h first m → IsReplayOf P code h old m → IsRunning m e.task r → IsOn first.lines e.task e.strand → StillAt code old.lines e.task → CanAct P m r a → a ≡ e.action → Takes code old new e.task a own → HasMade P code h m e new
+    → IsReplayOf P code h first m → IsReplayOf P code h old m → IsRunning m e.task r → IsOn first.lines e.task e.strand → StillAt code old.lines e.task
+    → CanAct P m r a → a ≡ e.action → Takes code old new e.task a own → HasMade P code h m e new
 has_made P code h m first old new e own a r x y run on st can same k =
     let given = task_of_line P code first.lines m.tasks e.task on.0 x.lines on.1 in
     let strand : r.strand ≡ e.strand = ap (λ (q : Running). q.strand) (same_Some r given.0 (sym run.0 ∙ given.1)) ∙ (sym given.2.strand ∙ on.2) in

@@ -1,5 +1,6 @@
 -- A ring of links after a task is put in or taken out.
-use Rattle.std.proofs.Common.{◌≡◌, ◌≢◌, ℕ, ◌+◌, ◌-◌, ◌<◌, if◌then◌else◌, List, [], ◌∷◌, ◌++◌, length, ◌⊎◌, inl, inr, refl, sym, ap, ◌∙◌, subst, arith, length-append}
+use Rattle.std.proofs.Common.{◌≡◌, ◌≢◌, ℕ, ◌+◌, ◌-◌, ◌<◌, if◌then◌else◌, List, [], ◌∷◌, ◌++◌, length}
+use Rattle.std.proofs.Common.{◌⊎◌, inl, inr, refl, sym, ap, ◌∙◌, subst, arith, length-append}
 use Rattle.std.specs.Prelude.{Some, slice_get, slice_set}
 use Rattle.std.proofs.lemmas.Option.{same_Some}
 use Rattle.std.proofs.lemmas.List.{append-nil}
@@ -150,7 +151,8 @@ set_else : (xs : List ℕ) (i x t r : ℕ) → t ≢ i → slice_get xs t ≡ So
 set_else xs i x t r other h = subst (λ zs. slice_get zs t ≡ Some r) (append-nil (slice_set xs i x)) (get_set_other xs [] i x t r other h)
 
 pub put_ring : (l : Links) (t c back : ℕ) (order : List ℕ) → StandsIn c order l t → slice_get l.prevs (t + 1) ≡ Some back
-    → IsRing (c + 1) (put_before t c order) (record { nexts = slice_set l.nexts back (c + 1) ++ (t + 1) ∷ []; prevs = slice_set l.prevs (t + 1) (c + 1) ++ back ∷ [] })
+    → IsRing (c + 1) (put_before t c order)
+    (record { nexts = slice_set l.nexts back (c + 1) ++ (t + 1) ∷ []; prevs = slice_set l.prevs (t + 1) (c + 1) ++ back ∷ [] })
 put_ring l t c back order s read =
     let nexts = slice_set l.nexts back (c + 1) in
     let prevs = slice_set l.prevs (t + 1) (c + 1) in
@@ -192,7 +194,8 @@ out_ring l tasks t back next order s read_back read_next =
       nexts_count = set_length l.nexts back next ∙ s.ring.nexts_count;
       prevs_count = set_length l.prevs next back ∙ s.ring.prevs_count;
       leads =
-          out_along l m t back next behind ahead (λ v w n h. set_else l.nexts back next v w n h) (λ v w n h. set_else l.prevs next back v w n h) joined order 0 0
+          out_along l m t back next behind ahead (λ v w n h. set_else l.nexts back next v w n h)
+          (λ v w n h. set_else l.prevs next back v w n h) joined order 0 0
           (not_start t) (not_start t) (λ y a. not_start y) s.there s.ring.leads;
     }
 

@@ -19,14 +19,16 @@ use Rattle.race_finder.specs.Finding.{IsFinderOf}
 use Rattle.run_laws.specs.Laws.{IsFirst}
 use Rattle.run_laws.specs.Ready.{ready_of}
 use Rattle.run_laws.proofs.Ready.{first_may_go_on, none_is_ready, ready_is_first}
-use Rattle.run_replay.specs.declared.line.Line.{Line}
+use Rattle.run_replay.specs.declared.line.TaskLine.{TaskLine}
 use Rattle.run_replay.specs.Next.{MayGoOn}
 use Rattle.run_replay.specs.Ready.{Links, IsRing, Reorders}
-use Rattle.run_replay.specs.Replays.{ReplayNow, IsLineOf, AreLinesOf, IsReplayOf, KeepsLine, KeepsLineAt, StandsStill, ActsAs, ActsAt, AreBegun, Begins, StillAt, Takes, Finds, FindsStill, creates_by}
+use Rattle.run_replay.specs.Replays.{ReplayNow, IsLineOf, AreLinesOf, IsReplayOf, KeepsLine, KeepsLineAt, StandsStill}
+use Rattle.run_replay.specs.Replays.{ActsAs, ActsAt, AreBegun, Begins, StillAt, Takes, Finds, FindsStill, creates_by}
 use Rattle.run_replay.proofs.Lining.{kept_lines, kept_length, set_twice, get_set_here}
 use Rattle.task_machine.proofs.Places.{get_below}
 
-pub begins_run : (P : tree.Program) (code : Compiled) (main : Line) (now : ReplayNow) → IsWellTyped P → IsCodeOf P code → Begins code code.main [] 0 0 main → IsFinderOf [] now.finder
+pub begins_run : (P : tree.Program) (code : Compiled) (main : TaskLine) (now : ReplayNow) → IsWellTyped P → IsCodeOf P code
+    → Begins code code.main [] 0 0 main → IsFinderOf [] now.finder
     → now.lines ≡ main ∷ [] → now.cells ≡ replicate code.cells (pos 0) → IsRing 1 (0 ∷ []) now.ready → now.entries ≡ 0 → now.creates ≡ 0 → now.strands ≡ 1
     → IsReplayOf P code [] now (opening P)
 begins_run P code main now typed of b found lines cells ready entries creates strands =
@@ -74,7 +76,8 @@ first_goes_on P code h now m (Some t) x k =
 
 -- ---- a run that stands still
 
-pub still_by : (code : Compiled) (old new : ReplayNow) (t : ℕ) → KeepsLineAt code old.lines new.lines t → new.cells ≡ old.cells → new.ready ≡ old.ready → new.entries ≡ old.entries → new.creates ≡ old.creates → new.strands ≡ old.strands → FindsStill old.finder new.finder → StandsStill code old new
+pub still_by : (code : Compiled) (old new : ReplayNow) (t : ℕ) → KeepsLineAt code old.lines new.lines t → new.cells ≡ old.cells → new.ready ≡ old.ready
+    → new.entries ≡ old.entries → new.creates ≡ old.creates → new.strands ≡ old.strands → FindsStill old.finder new.finder → StandsStill code old new
 still_by code old new t k cells ready entries creates strands finds P h m x =
     let size = kept_length code old.lines new.lines t k in
     let few = x.few in
@@ -96,7 +99,7 @@ still_by code old new t k cells ready entries creates strands finds P h m x =
 
 -- ---- a run that takes an action
 
-acts_on : (code : Compiled) (x y z : Line) (a : Action) → KeepsLine code x y → IsStill code y.task → ActsAs code y z a → ActsAs code x z a
+acts_on : (code : Compiled) (x y z : TaskLine) (a : Action) → KeepsLine code x y → IsStill code y.task → ActsAs code y z a → ActsAs code x z a
 acts_on code x y z a k still w =
     record {
       fed = λ runs old. (
@@ -117,15 +120,18 @@ acts_on code x y z a k still w =
 at : ℕ → ℕ → Action → Event
 at t s a = record { task = t; strand = s; action = a }
 
-pub takes_by : (code : Compiled) (old new : ReplayNow) (mid : List Line) (t : ℕ) (a : Action) (e : Event) (begun : List Line) (x : Line)
-    → slice_get old.lines t ≡ Some x → KeepsLineAt code old.lines mid t → StillAt code mid t → ActsAt code mid new.lines t a begun → AreBegun code x.future a begun → e ≡ record { task = t; strand = x.strand; action = a }
-    → new.cells ≡ cells_after a old.cells → new.strands ≡ old.strands + strands_by a → new.entries ≡ old.entries + 1 → new.creates ≡ old.creates + creates_by (creates a) → Reorders old.ready new.ready t a
+pub takes_by : (code : Compiled) (old new : ReplayNow) (mid : List TaskLine) (t : ℕ) (a : Action) (e : Event) (begun : List TaskLine) (x : TaskLine)
+    → slice_get old.lines t ≡ Some x → KeepsLineAt code old.lines mid t → StillAt code mid t → ActsAt code mid new.lines t a begun
+    → AreBegun code x.future a begun → e ≡ record { task = t; strand = x.strand; action = a }
+    → new.cells ≡ cells_after a old.cells → new.strands ≡ old.strands + strands_by a → new.entries ≡ old.entries + 1
+    → new.creates ≡ old.creates + creates_by (creates a) → Reorders old.ready new.ready t a
     → Finds old.finder new.finder e → Takes code old new t a e
 takes_by code old new mid t a e begun x present k st w are event cells strands entries creates ready finds =
     let same : k.before ≡ x = same_Some k.before x (sym k.present ∙ present) in
     let here = get_set_here old.lines t k.after (get_below old.lines t x present) in
     let middle : k.after ≡ w.before = same_Some k.after w.before (sym here ∙ (ap (λ l. slice_get l t) (sym k.is) ∙ w.present)) in
-    let keeps : KeepsLine code x w.before = subst (λ (z : Line). KeepsLine code z w.before) same (subst (λ (z : Line). KeepsLine code k.before z) middle k.keeps) in
+    let keeps : KeepsLine code x w.before =
+    subst (λ (z : TaskLine). KeepsLine code z w.before) same (subst (λ (z : TaskLine). KeepsLine code k.before z) middle k.keeps) in
     record {
       before = x;
       after = w.after;
@@ -133,7 +139,8 @@ takes_by code old new mid t a e begun x present k st w are event cells strands e
       present = present;
       event = event;
       lines = w.is ∙ ap (λ l. l ++ begun) (ap (λ l. slice_set l t w.after) k.is ∙ set_twice old.lines t k.after w.after);
-      acts = acts_on code x w.before w.after a keeps (subst (λ (z : Line). IsStill code z.task) (same_Some st.0 w.before (sym st.1 ∙ w.present)) st.3) w.acts;
+      acts = acts_on code x w.before w.after a keeps
+          (subst (λ (z : TaskLine). IsStill code z.task) (same_Some st.0 w.before (sym st.1 ∙ w.present)) st.3) w.acts;
       are_begun = are;
       cells = cells;
       strands = strands;
@@ -144,6 +151,6 @@ takes_by code old new mid t a e begun x present k st w are event cells strands e
     }
 
 -- a run of these parts
-abbrev pub now_of : List Line → List ℤ → Links → ℕ → ℕ → ℕ → Finder → ReplayNow
+abbrev pub now_of : List TaskLine → List ℤ → Links → ℕ → ℕ → ℕ → Finder → ReplayNow
 now_of lines cells ready entries creates strands finder =
     record { lines = lines; cells = cells; ready = ready; entries = entries; creates = creates; strands = strands; finder = finder }

@@ -9,7 +9,8 @@ use Rattle.run_replay.specs.declared.step.StepStop.TheVariants as stop
 use Rattle.run_replay.specs.Replays.{ReplayNow, IsSomeReplay}
 use Rattle.run_replay.specs.Steps.{IsStepped}
 
-pub some_after : (P : tree.Program) (code : Compiled) (h : List Event) (m : Machine) (e : Event) (new : ReplayNow) (told : Result Unit StepStop) → IsStepped P code h m e new told → IsSomeReplay code new
+pub some_after : (P : tree.Program) (code : Compiled) (h : List Event) (m : Machine) (e : Event) (new : ReplayNow) (told : Result Unit StepStop)
+    → IsStepped P code h m e new told → IsSomeReplay code new
 some_after P code h m e new (Ok _) k = (P, _, k.0, k.2)
 some_after P code h m e new (Err stop.NotLegal) k = (P, h, m, k.1)
 some_after P code h m e new (Err stop.NoMemory) k = (P, h, m, k)

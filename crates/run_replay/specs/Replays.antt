@@ -1,5 +1,6 @@
 -- A run beside the machine of the definitions.
-use Rattle.std.specs.Prelude.{◌≡◌, ℕ, ◌+◌, ◌*◌, ◌<◌, ◌≤◌, Bool, true, false, not, List, [], ◌∷◌, ◌++◌, length, slice_get, slice_set, Option, Some, None, is_some, IsSome, ℤ, vec_len, vec_capacity}
+use Rattle.std.specs.Prelude.{◌≡◌, ℕ, ◌+◌, ◌*◌, ◌<◌, ◌≤◌, Bool, true, false, not, List, [], ◌∷◌, ◌++◌, length}
+use Rattle.std.specs.Prelude.{slice_get, slice_set, Option, Some, None, is_some, IsSome, ℤ, vec_len, vec_capacity}
 use Rattle.fut_base.specs.declared.limits.TheConstants.{MOST_LOCAL_STEPS}
 use Rattle.fut_base.specs.declared.record.Value.{Value}
 use Rattle.fut_base.specs.declared.event.Event.{Event}
@@ -11,7 +12,8 @@ use Rattle.fut_syntax.specs.Trees as tree
 use Rattle.fut_check.specs.Items.{IsWellTyped}
 use Rattle.task_machine.specs.State.{TaskState, wish_of, effect_of, start_state, Answers}
 use Rattle.task_machine.specs.Runs.{StandsAt}
-use Rattle.task_machine.specs.Machine.{Machine, Running, opening, ended_with, AllHaveEnded, IsRunning, Permits, strand_after, cells_after, Leads, creates, create_count}
+use Rattle.task_machine.specs.Machine.{Machine, Running, opening, ended_with, AllHaveEnded, IsRunning}
+use Rattle.task_machine.specs.Machine.{Permits, strand_after, cells_after, Leads, creates, create_count}
 use Rattle.task_types.specs.Typed.{ArgsFit, ActionFits, any_future}
 use Rattle.task_code.specs.Flat.{Compiled, IsCodeOf}
 use Rattle.task_code.specs.Tasks.{TaskNow, IsTaskOf, IsStill, Wishes}
@@ -21,13 +23,13 @@ use Rattle.access_shards.specs.Histories.{IsInStep}
 use Rattle.race_finder.specs.declared.finder.Finder.{Finder}
 use Rattle.race_finder.specs.Finding.{IsFinderOf}
 use Rattle.run_laws.specs.Ready.{ready_of}
-use Rattle.run_replay.specs.declared.line.Line.{Line}
+use Rattle.run_replay.specs.declared.line.TaskLine.{TaskLine}
 use Rattle.run_replay.specs.Ready.{Links, IsRing, Reorders}
 
 -- what a run shows: its tasks by number, the cells, the ring of the tasks that have not ended, how many entries, creates and strands
 -- were made, and the finder of its races
 pub record ReplayNow : Type 0 where
-  pub lines : List Line
+  pub lines : List TaskLine
   pub cells : List ℤ
   pub ready : Links
   pub entries : ℕ
@@ -36,7 +38,7 @@ pub record ReplayNow : Type 0 where
   pub finder : Finder
 
 -- a line of the run is a task of the machine
-pub record IsLineOf (P : tree.Program) (code : Compiled) (line : Line) (r : Running) : Type 0 where
+pub record IsLineOf (P : tree.Program) (code : Compiled) (line : TaskLine) (r : Running) : Type 0 where
   pub args : List Value
   pub task : IsTaskOf P code args line.task r.state
   pub which : line.task.which ≡ r.which
@@ -47,7 +49,7 @@ pub record IsLineOf (P : tree.Program) (code : Compiled) (line : Line) (r : Runn
   pub value : line.value ≡ r.value
 
 -- the lines are the machine's tasks, one by one
-abbrev pub AreLinesOf : tree.Program → Compiled → List Line → List Running → Type 0
+abbrev pub AreLinesOf : tree.Program → Compiled → List TaskLine → List Running → Type 0
 AreLinesOf P code [] [] = Unit {0}
 AreLinesOf P code [] (_ ∷ _) = ⊥
 AreLinesOf P code (_ ∷ _) [] = ⊥
@@ -86,7 +88,7 @@ pub record KeepsTask (code : Compiled) (old new : TaskNow) : Type 0 where
       → IsTaskOf P code args old s → IsTaskOf P code args new s
 
 -- a line whose task may have made local steps, and which is else the same
-pub record KeepsLine (code : Compiled) (old new : Line) : Type 0 where
+pub record KeepsLine (code : Compiled) (old new : TaskLine) : Type 0 where
   pub task : KeepsTask code old.task new.task
   pub strand : new.strand ≡ old.strand
   pub future : new.future ≡ old.future
@@ -94,7 +96,7 @@ pub record KeepsLine (code : Compiled) (old new : Line) : Type 0 where
   pub value : new.value ≡ old.value
 
 -- a line can take an entry without memory
-pub record HasRoom (line : Line) : Type 0 where
+pub record HasRoom (line : TaskLine) : Type 0 where
   pub trace : 1 ≤ line.task.trace.spare
   pub block : vec_len line.block < vec_capacity line.block
 
@@ -107,7 +109,7 @@ pub record Fed (code : Compiled) (old new : TaskNow) (a : Action) : Type 0 where
       → IsTaskOf P code args new (effect_of t a)
 
 -- a line after an action of its task
-pub record ActsAs (code : Compiled) (old new : Line) (a : Action) : Type 0 where
+pub record ActsAs (code : Compiled) (old new : TaskLine) (a : Action) : Type 0 where
   pub fed : old.task.spot.ended ≡ false → IsStill code old.task → Fed code old.task new.task a
   pub strand : new.strand ≡ strand_after a old.strand
   pub future : new.future ≡ old.future
@@ -115,61 +117,61 @@ pub record ActsAs (code : Compiled) (old new : Line) (a : Action) : Type 0 where
   pub value : new.value ≡ value_by a old.value
 
 -- a line of a list keeps its task, and the others are as they were
-pub record KeepsLineAt (code : Compiled) (old new : List Line) (t : ℕ) : Type 0 where
-  pub before : Line
-  pub after : Line
+pub record KeepsLineAt (code : Compiled) (old new : List TaskLine) (t : ℕ) : Type 0 where
+  pub before : TaskLine
+  pub after : TaskLine
   pub present : slice_get old t ≡ Some before
   pub is : new ≡ slice_set old t after
   pub keeps : KeepsLine code before after
 
 -- the line of a task has room for one more
-abbrev pub HasRoomAt : List Line → ℕ → Type 0
-HasRoomAt lines t = (line : Line) × (slice_get lines t ≡ Some line) × HasRoom line
+abbrev pub HasRoomAt : List TaskLine → ℕ → Type 0
+HasRoomAt lines t = (line : TaskLine) × (slice_get lines t ≡ Some line) × HasRoom line
 
 -- a line has taken an action, and others were added behind
-pub record ActsAt (code : Compiled) (old new : List Line) (t : ℕ) (a : Action) (begun : List Line) : Type 0 where
-  pub before : Line
-  pub after : Line
+pub record ActsAt (code : Compiled) (old new : List TaskLine) (t : ℕ) (a : Action) (begun : List TaskLine) : Type 0 where
+  pub before : TaskLine
+  pub after : TaskLine
   pub present : slice_get old t ≡ Some before
   pub is : new ≡ slice_set old t after ++ begun
   pub acts : ActsAs code before after a
 
 -- a task that exists and has not ended
-abbrev pub RunsAt : List Line → ℕ → Type 0
-RunsAt lines t = (line : Line) × (slice_get lines t ≡ Some line) × (line.task.spot.ended ≡ false)
+abbrev pub RunsAt : List TaskLine → ℕ → Type 0
+RunsAt lines t = (line : TaskLine) × (slice_get lines t ≡ Some line) × (line.task.spot.ended ≡ false)
 
 -- such a task that stands at an event
-abbrev pub StillAt : Compiled → List Line → ℕ → Type 0
-StillAt code lines t = (line : Line) × (slice_get lines t ≡ Some line) × (line.task.spot.ended ≡ false) × IsStill code line.task
+abbrev pub StillAt : Compiled → List TaskLine → ℕ → Type 0
+StillAt code lines t = (line : TaskLine) × (slice_get lines t ≡ Some line) × (line.task.spot.ended ≡ false) × IsStill code line.task
 
 -- a task that exists, on this strand
-abbrev pub IsOn : List Line → ℕ → ℕ → Type 0
-IsOn lines t strand = (line : Line) × (slice_get lines t ≡ Some line) × (line.strand ≡ strand)
+abbrev pub IsOn : List TaskLine → ℕ → ℕ → Type 0
+IsOn lines t strand = (line : TaskLine) × (slice_get lines t ≡ Some line) × (line.strand ≡ strand)
 
 -- the task exists and has not ended
-abbrev pub is_running : Option Line → Bool
+abbrev pub is_running : Option TaskLine → Bool
 is_running None = false
 is_running (Some line) = not (is_some line.value)
 
 -- the value with which a task has ended
-abbrev pub line_value : Option Line → Option Value
+abbrev pub line_value : Option TaskLine → Option Value
 line_value None = None
 line_value (Some line) = line.value
 
 -- the value with which a task has ended, where it has
-abbrev pub value_at : List Line → ℕ → Option Value
+abbrev pub value_at : List TaskLine → ℕ → Option Value
 value_at lines t = line_value (slice_get lines t)
 
 -- each of these tasks has ended
-abbrev pub HaveEnded : List Line → List ℕ → Type 0
+abbrev pub HaveEnded : List TaskLine → List ℕ → Type 0
 HaveEnded lines tasks = (i t : ℕ) → slice_get tasks i ≡ Some t → is_some (value_at lines t) ≡ true
 
 -- the one at this place has not
-abbrev pub RunsStill : List Line → List ℕ → ℕ → Type 0
+abbrev pub RunsStill : List TaskLine → List ℕ → ℕ → Type 0
 RunsStill lines tasks i = (t : ℕ) × (slice_get tasks i ≡ Some t) × (value_at lines t ≡ None)
 
 -- the line of a task that begins
-pub record Begins (code : Compiled) (which : ℕ) (args : List Value) (strand future : ℕ) (line : Line) : Type 0 where
+pub record Begins (code : Compiled) (which : ℕ) (args : List Value) (strand future : ℕ) (line : TaskLine) : Type 0 where
   pub which_is : line.task.which ≡ which
   pub runs : line.task.spot.ended ≡ false
   pub strand_is : line.strand ≡ strand
@@ -179,9 +181,9 @@ pub record Begins (code : Compiled) (which : ℕ) (args : List Value) (strand fu
   pub state : (P : tree.Program) → IsWellTyped P → IsCodeOf P code → ArgsFit any_future P which args → IsTaskOf P code args line.task (start_state P which args)
 
 -- the lines of the tasks that an action begins: a spawned one is in its parent's future, a created one in its own
-abbrev pub AreBegun : Compiled → ℕ → Action → List Line → Type 0
-AreBegun code future (Spawns which child kid _ args) lines = (line : Line) × (lines ≡ line ∷ []) × Begins code which args kid future line
-AreBegun code future (Creates which child kid _ args) lines = (line : Line) × (lines ≡ line ∷ []) × Begins code which args kid child line
+abbrev pub AreBegun : Compiled → ℕ → Action → List TaskLine → Type 0
+AreBegun code future (Spawns which child kid _ args) lines = (line : TaskLine) × (lines ≡ line ∷ []) × Begins code which args kid future line
+AreBegun code future (Creates which child kid _ args) lines = (line : TaskLine) × (lines ≡ line ∷ []) × Begins code which args kid child line
 AreBegun code future _ lines = lines ≡ []
 
 -- ---- one event
@@ -201,9 +203,9 @@ creates_by false = 0
 
 -- the run has taken an event of this action of the task at a place
 pub record Takes (code : Compiled) (old new : ReplayNow) (t : ℕ) (a : Action) (e : Event) : Type 0 where
-  pub before : Line
-  pub after : Line
-  pub begun : List Line
+  pub before : TaskLine
+  pub after : TaskLine
+  pub begun : List TaskLine
   pub present : slice_get old.lines t ≡ Some before
   pub event : e ≡ record { task = t; strand = before.strand; action = a }
   pub lines : new.lines ≡ slice_set old.lines t after ++ begun

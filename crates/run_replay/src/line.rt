@@ -16,7 +16,7 @@ use task_code::task::Task;
 /// A task of a run: its strand, its future, the children that it has spawned since its last sync, and the value with
 /// which it has ended.
 #[derive(Drop)]
-pub struct Line {
+pub struct TaskLine {
     pub task: Task,
     pub strand: u32,
     pub future: u32,
@@ -33,11 +33,11 @@ pub fn begin(
     args: &Args,
     strand: u32,
     future: u32,
-) -> Result<Line, NoMemory>
+) -> Result<TaskLine, NoMemory>
     ensures { IfOk result (λ line. Begins code.now which args.now.items strand future line) }
 {
     let task = Task::start(alloc, code, number, which, args)?;
-    Ok(Line {
+    Ok(TaskLine {
         task,
         strand,
         future,
@@ -52,7 +52,7 @@ pub fn begin_child(
     code: &Code,
     future: u32,
     act: &Act,
-) -> Result<Option<Line>, NoMemory>
+) -> Result<Option<TaskLine>, NoMemory>
     ensures { IfOk result (λ child. AreBegun code.now future (action_of act.now) (option_to_list child)) }
 {
     match act {
@@ -85,7 +85,7 @@ pub fn begin_child(
 }
 
 /// Makes room for one more entry.
-pub fn make_room(line: &mut Line, code: &Code) -> Result<(), NoMemory>
+pub fn make_room(line: &mut TaskLine, code: &Code) -> Result<(), NoMemory>
     ensures same { KeepsLine code.now line.old line.new }
     ensures still { IsStill code.now line.old.task → IsStill code.now line.new.task }
     ensures room { OnOk result (HasRoom line.new) }
@@ -95,7 +95,7 @@ pub fn make_room(line: &mut Line, code: &Code) -> Result<(), NoMemory>
 }
 
 /// What an act changes of the line of its task, its place in the text aside.
-fn change(line: &mut Line, act: &Act)
+fn change(line: &mut TaskLine, act: &Act)
     requires room { HasRoom line.old }
     ensures task { line.new.task ≡ line.old.task }
     ensures strand { line.new.strand ≡ strand_after (action_of act.now) line.old.strand }
@@ -120,7 +120,7 @@ fn change(line: &mut Line, act: &Act)
 }
 
 /// Takes an entry of the task.
-pub fn act_as(line: &mut Line, code: &Code, ticket: u32, entry: Entry)
+pub fn act_as(line: &mut TaskLine, code: &Code, ticket: u32, entry: Entry)
     requires room { HasRoom line.old }
     ensures { ActsAs code.now line.old line.new (action_of entry.act) }
 {

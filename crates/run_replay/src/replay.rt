@@ -1,5 +1,6 @@
 //! A run: its events one after the other.
-ghost use Rattle.std.specs.Prelude.{◌≡◌, ◌↔◌, IsTrue, ◌<◌, ◌≤◌, ◌+◌, ◌*◌, ◌^◌, ℕ, ℤ, true, false, ◌⊎◌, List, [], length, slice_get, Some, None, IfOk, IfSome, OnErr, OnOk, MatchOption};
+ghost use Rattle.std.specs.Prelude.{◌≡◌, ◌↔◌, IsTrue, ◌<◌, ◌≤◌, ◌+◌, ◌*◌, ◌^◌, ℕ, ℤ, true, false, ◌⊎◌, List, []};
+ghost use Rattle.std.specs.Prelude.{length, slice_get, Some, None, IfOk, IfSome, OnErr, OnOk, MatchOption};
 ghost use Rattle.fut_base.specs.declared.event.Event.{Event};
 ghost use Rattle.fut_base.specs.Events.{action_of, event_of};
 ghost use Rattle.fut_base.specs.Racing.{IsReport};
@@ -14,9 +15,10 @@ ghost use Rattle.task_code.specs.Tasks.{Wishes};
 ghost use Rattle.task_code.specs.declared.task.Wish.TheVariants as asked;
 ghost use Rattle.run_laws.specs.Laws.{IsFirst};
 ghost use Rattle.run_replay.specs.Next.{Goes, is_create, IsBar, IsNext, MayGo, MayGoOn};
-ghost use Rattle.run_replay.specs.Replays.{HaveEnded, IsOn, is_running, RunsStill, value_at, CanAct, IsBarred, IsEvent, IsFree, IsFreeWish, IsLegalAct, IsReplayOf, IsSomeReplay, RunsAt, StandsStill, StillAt, Takes};
+ghost use Rattle.run_replay.specs.Replays.{HaveEnded, IsOn, is_running, RunsStill, value_at, CanAct, IsBarred, IsEvent, IsFree};
+ghost use Rattle.run_replay.specs.Replays.{IsFreeWish, IsLegalAct, IsReplayOf, IsSomeReplay, RunsAt, StandsStill, StillAt, Takes};
 
-use crate::line::{Line, begin, begin_child};
+use crate::line::{TaskLine, begin, begin_child};
 use crate::ready::Ring;
 use crate::table::{commit, creates_of, give_room, strands_of, write};
 use fut_base::acts::copy_of;
@@ -44,7 +46,7 @@ pub enum Next {
 #[derive(Drop)]
 pub struct Replay {
     alloc: Global,
-    lines: Vec<Line>,
+    lines: Vec<TaskLine>,
     cells: Vec<i64>,
     ready: Ring,
     entries: u32,

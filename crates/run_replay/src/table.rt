@@ -5,13 +5,13 @@ ghost use Rattle.fut_base.specs.Sound.{strands_by};
 ghost use Rattle.task_machine.specs.Machine.{cells_after, creates};
 ghost use Rattle.run_replay.specs.Replays.{ActsAt, creates_by, HasRoomAt, KeepsLineAt, StillAt};
 
-use crate::line::{Line, act_as, make_room};
+use crate::line::{TaskLine, act_as, make_room};
 use fut_base::list::NoMemory;
 use fut_base::record::{Act, Entry};
 use task_code::code::Code;
 
 /// Makes room for one more entry of a task, and for one more task.
-pub fn give_room(lines: &mut Vec<Line>, code: &Code, place: usize) -> Result<(), NoMemory>
+pub fn give_room(lines: &mut Vec<TaskLine>, code: &Code, place: usize) -> Result<(), NoMemory>
     requires exists { place < length lines.old.items }
     ensures same { KeepsLineAt code.now lines.old.items lines.new.items place }
     ensures still { StillAt code.now lines.old.items place → StillAt code.now lines.new.items place }
@@ -24,12 +24,12 @@ pub fn give_room(lines: &mut Vec<Line>, code: &Code, place: usize) -> Result<(),
 
 /// Takes an entry of a task, and the task that it begins.
 pub fn commit(
-    lines: &mut Vec<Line>,
+    lines: &mut Vec<TaskLine>,
     code: &Code,
     place: usize,
     ticket: u32,
     entry: Entry,
-    child: Option<Line>,
+    child: Option<TaskLine>,
 )
     requires exists { place < length lines.old.items }
     requires room { HasRoomAt lines.old.items place }

@@ -1,5 +1,6 @@
 -- The jobs of a run, from its start to its end.
-use Rattle.std.proofs.Common.{◌≡◌, ℕ, zero, suc, ◌+◌, ◌<◌, Bool, true, false, ◌||◌, ◌⊎◌, List, [], ◌∷◌, ◌++◌, length, get_or, map, All, inl, inr, sym, refl, ap, ◌∙◌, subst, arith}
+use Rattle.std.proofs.Common.{◌≡◌, ℕ, zero, suc, ◌+◌, ◌<◌, Bool, true, false, ◌||◌, ◌⊎◌, List, [], ◌∷◌}
+use Rattle.std.proofs.Common.{◌++◌, length, get_or, map, All, inl, inr, sym, refl, ap, ◌∙◌, subst, arith}
 use Rattle.std.proofs.lemmas.List.Elements.{All-cons, All-tail}
 use Rattle.std.specs.List.{list_any}
 use Rattle.std.specs.Option.{option_to_list}
@@ -59,11 +60,14 @@ module _ {J W : Type 0} (turned : ℕ → W → J → List J → Bool → W → 
         × StopsAtHalt (get_or ms i d).halted ts (get_or ms' i d).halted
     pub halted : list_any (λ (m : Worker J W). m.halted) ms' ≡ true → (list_any (λ (m : Worker J W). m.halted) ms ≡ true) ⊎ SomeHalts runs'
     pub still_halted : SomeHalts runs → SomeHalts runs'
-    pub balance : (h : J → ℕ) → weigh (held_weight h) ms + weigh (given_weight h) runs' + weigh (λ m. taken_weight h m.thief) ms' + weigh (λ m. put_weight h m.thief) ms + weigh (turned_weight h) runs
-        ≡ weigh (given_weight h) runs + weigh (turned_weight h) runs' + weigh (held_weight h) ms' + weigh (λ m. taken_weight h m.thief) ms + weigh (λ m. put_weight h m.thief) ms'
+    pub balance : (h : J → ℕ) → weigh (held_weight h) ms + weigh (given_weight h) runs' + weigh (λ m. taken_weight h m.thief) ms' + weigh
+        (λ m. put_weight h m.thief) ms + weigh (turned_weight h) runs
+        ≡ weigh (given_weight h) runs + weigh (turned_weight h) runs' + weigh (held_weight h) ms' + weigh (λ m. taken_weight h m.thief) ms + weigh
+        (λ m. put_weight h m.thief) ms'
 
   pub extend : (ms ms' : List (Worker J W)) (runs : List (List (Turn J))) → length ms' ≡ length ms → length runs ≡ length ms
-      → ((i : ℕ) (d : Worker J W) → i < length ms → Worked turned (get_or ms i d) [] (get_or ms' i d) []) → (runs' : List (List (Turn J))) × Extended ms ms' runs runs'
+      → ((i : ℕ) (d : Worker J W) → i < length ms → Worked turned (get_or ms i d) [] (get_or ms' i d) [])
+      → (runs' : List (List (Turn J))) × Extended ms ms' runs runs'
   extend [] [] [] len len' each = (
     [],
     record {
@@ -90,7 +94,12 @@ module _ {J W : Type 0} (turned : ℕ → W → J → List J → Bool → W → 
           numbers = λ i d l. number m m' ms ms' w.number x.numbers i d l;
           more = λ i d e l. at_more m m' ms ms' r runs w.turns rec.0 w.chain w.stops x.more i d e l;
           halted = λ e. elim (or_cases m'.halted (list_any (λ (m : Worker J W). m.halted) ms') e) [
-            | inl here ↦ elim (halts_of m.halted m'.halted w.turns w.stops here) [ inl f ↦ inl (or_left m.halted (list_any (λ (m : Worker J W). m.halted) ms) f) | inr s ↦ inr (inl (halts_right r w.turns s)) ]
+            | inl here ↦
+                elim (halts_of m.halted m'.halted w.turns w.stops here) [
+                  | inl f ↦
+                      inl (or_left m.halted (list_any (λ (m : Worker J W). m.halted) ms) f)
+                  | inr s ↦ inr (inl (halts_right r w.turns s))
+                ]
             | inr there ↦ elim (x.halted there) [ inl f ↦ inl (or_right m.halted (list_any (λ (m : Worker J W). m.halted) ms) f) | inr s ↦ inr (inr s) ]
           ];
           still_halted = λ s. elim s [ inl here ↦ inl (halts_left r w.turns here) | inr there ↦ inr (x.still_halted there) ];
@@ -101,24 +110,29 @@ module _ {J W : Type 0} (turned : ℕ → W → J → List J → Bool → W → 
         },
       )
     where
-      number : (m m' : Worker J W) (ms ms' : List (Worker J W)) → m'.number ≡ m.number → ((i : ℕ) (d : Worker J W) → i < length ms → (get_or ms' i d).number ≡ (get_or ms i d).number)
+      number : (m m' : Worker J W) (ms ms' : List (Worker J W)) → m'.number ≡ m.number
+          → ((i : ℕ) (d : Worker J W) → i < length ms → (get_or ms' i d).number ≡ (get_or ms i d).number)
           → (i : ℕ) (d : Worker J W) → i < length (m ∷ ms) → (get_or (m' ∷ ms') i d).number ≡ (get_or (m ∷ ms) i d).number
       number m m' ms ms' here there zero d l = here
       number m m' ms ms' here there (suc i) d l = there i d (omega arith)
 
-      at_more : (m m' : Worker J W) (ms ms' : List (Worker J W)) (r : List (Turn J)) (runs : List (List (Turn J))) (ts : List (Turn J)) (runs' : List (List (Turn J)))
+      at_more : (m m' : Worker J W) (ms ms' : List (Worker J W)) (r : List (Turn J)) (runs : List (List (Turn J))) (ts : List (Turn J))
+          (runs' : List (List (Turn J)))
           → Chain (turned m.number) m.own ts m'.own → StopsAtHalt m.halted ts m'.halted
           → ((i : ℕ) (d : Worker J W) (e : List (Turn J)) → i < length ms
-          → (ts : List (Turn J)) × (get_or runs' i e ≡ get_or runs i e ++ ts) × Chain (turned (get_or ms i d).number) (get_or ms i d).own ts (get_or ms' i d).own
+          → (ts : List (Turn J)) × (get_or runs' i e ≡ get_or runs i e ++ ts)
+          × Chain (turned (get_or ms i d).number) (get_or ms i d).own ts (get_or ms' i d).own
           × StopsAtHalt (get_or ms i d).halted ts (get_or ms' i d).halted)
           → (i : ℕ) (d : Worker J W) (e : List (Turn J)) → i < length (m ∷ ms)
-          → (us : List (Turn J)) × (get_or ((r ++ ts) ∷ runs') i e ≡ get_or (r ∷ runs) i e ++ us) × Chain (turned (get_or (m ∷ ms) i d).number) (get_or (m ∷ ms) i d).own us (get_or (m' ∷ ms') i d).own
+          → (us : List (Turn J)) × (get_or ((r ++ ts) ∷ runs') i e ≡ get_or (r ∷ runs) i e ++ us)
+          × Chain (turned (get_or (m ∷ ms) i d).number) (get_or (m ∷ ms) i d).own us (get_or (m' ∷ ms') i d).own
           × StopsAtHalt (get_or (m ∷ ms) i d).halted us (get_or (m' ∷ ms') i d).halted
       at_more m m' ms ms' r runs ts runs' here stops there zero d e l = (ts, refl, here, stops)
       at_more m m' ms ms' r runs ts runs' here stops there (suc i) d e l = there i d e (omega arith)
 
   -- the workers did turns
-  pub worked_on : (first : J) (owns : List W) (runs : List (List (Turn J))) (ms ms' : List (Worker J W)) (out : List J) → AllWorked turned ms ms' → Account first owns runs ms out
+  pub worked_on : (first : J) (owns : List W) (runs : List (List (Turn J))) (ms ms' : List (Worker J W)) (out : List J) → AllWorked turned ms ms'
+      → Account first owns runs ms out
       → (runs' : List (List (Turn J))) × Account first owns runs' ms' out
   worked_on first owns runs ms ms' out (len, each) acc =
       let ext = extend ms ms' runs len acc.workers each in
@@ -156,22 +170,29 @@ module _ {J W : Type 0} (turned : ℕ → W → J → List J → Bool → W → 
         count = acc.count ∙ sym len;
         numbers = λ i d l. let b : i < length ms = omega arith in ap (λ (x : ℕ × W × Bool). x.0) (at_same self_of ms' ms i d d l selves) ∙ acc.numbers i d b;
         chains = λ i o e d l. let b : i < length ms = omega arith in
-            subst (λ v. Chain (turned i) (get_or owns i o) (get_or runs i e) v) (sym (ap (λ (x : ℕ × W × Bool). x.1) (at_same self_of ms' ms i d d l selves))) (acc.chains i o e d b);
+            subst (λ v. Chain (turned i) (get_or owns i o) (get_or runs i e) v) (sym (ap (λ (x : ℕ × W × Bool). x.1) (at_same self_of ms' ms i d d l selves)))
+            (acc.chains i o e d b);
         stops = λ i e d l. let b : i < length ms = omega arith in
-            subst (λ v. StopsAtHalt false (get_or runs i e) v) (sym (ap (λ (x : ℕ × W × Bool). x.2) (at_same self_of ms' ms i d d l selves))) (acc.stops i e d b);
+            subst (λ v. StopsAtHalt false (get_or runs i e) v) (sym (ap (λ (x : ℕ × W × Bool). x.2) (at_same self_of ms' ms i d d l selves)))
+            (acc.stops i e d b);
         halted = λ e. acc.halted (sym (any_same self_of (λ (x : ℕ × W × Bool). x.2) ms' ms selves) ∙ e);
         balance = λ h. let a = acc.balance h in let b = moved h in omega arith;
       }
 
-  pub gathered_on : (first : J) (owns : List W) (runs : List (List (Turn J))) (ms ms' : List (Worker J W)) (out : List J) → AreGathered ms ms' → Account first owns runs ms out → Account first owns runs ms' out
-  gathered_on first owns runs ms ms' out g = selves_kept first owns runs ms ms' out out g.selves (λ h. let a = g.held h in let b = g.put h in let c = g.taken h in omega arith)
+  pub gathered_on : (first : J) (owns : List W) (runs : List (List (Turn J))) (ms ms' : List (Worker J W)) (out : List J) → AreGathered ms ms'
+      → Account first owns runs ms out → Account first owns runs ms' out
+  gathered_on first owns runs ms ms' out g =
+      selves_kept first owns runs ms ms' out out g.selves (λ h. let a = g.held h in let b = g.put h in let c = g.taken h in omega arith)
 
-  pub drained_on : (first : J) (owns : List W) (runs : List (List (Turn J))) (ms ms' : List (Worker J W)) (out out' : List J) → AllMoved ms out ms' out' → Account first owns runs ms out → Account first owns runs ms' out'
+  pub drained_on : (first : J) (owns : List W) (runs : List (List (Turn J))) (ms ms' : List (Worker J W)) (out out' : List J) → AllMoved ms out ms' out'
+      → Account first owns runs ms out → Account first owns runs ms' out'
   drained_on first owns runs ms ms' out out' g = selves_kept first owns runs ms ms' out out' g.selves g.balance
 
   -- the end: nothing is left but what was drained
-  pub settles : (first : J) (owns : List W) (runs : List (List (Turn J))) (ms : List (Worker J W)) (out : List J) (owns' : List W) → All HasNothingLeft ms → All IsWhole ms
-      → owns' ≡ map (λ (m : Worker J W). m.own) ms → (out ≡ []) ⊎ (list_any (λ (m : Worker J W). m.halted) ms ≡ true) → Account first owns runs ms out → TurnedOrLeft turned first owns out owns'
+  pub settles : (first : J) (owns : List W) (runs : List (List (Turn J))) (ms : List (Worker J W)) (out : List J) (owns' : List W) → All HasNothingLeft ms
+      → All IsWhole ms
+      → owns' ≡ map (λ (m : Worker J W). m.own) ms → (out ≡ []) ⊎ (list_any (λ (m : Worker J W). m.halted) ms ≡ true) → Account first owns runs ms out
+      → TurnedOrLeft turned first owns out owns'
   settles first owns runs ms out owns' bare whole is halted acc = record {
     runs = runs;
     workers = acc.workers ∙ sym acc.count;
@@ -179,13 +200,16 @@ module _ {J W : Type 0} (turned : ℕ → W → J → List J → Bool → W → 
     chains = λ w d e l.
         let b : w < length ms = let c = acc.count in omega arith in
         let m = some_of ms w b in
-        subst (λ v. Chain (turned w) (get_or owns w d) (get_or runs w e) v) (sym (ap (λ os. get_or os w d) is ∙ get_or-map (λ (m : Worker J W). m.own) ms w m d b)) (acc.chains w d e m b);
+        subst (λ v. Chain (turned w) (get_or owns w d) (get_or runs w e) v)
+        (sym (ap (λ os. get_or os w d) is ∙ get_or-map (λ (m : Worker J W). m.own) ms w m d b)) (acc.chains w d e m b);
     each_once = λ h.
         let a = acc.balance h in
-        let p = weigh_alike (λ (m : Worker J W). put_weight h m.thief) (λ (m : Worker J W). taken_weight h m.thief) ms (λ k d l. same_weight h (get_or ms k d) (bare k d l) (whole k d l)) in
+        let p = weigh_alike (λ (m : Worker J W). put_weight h m.thief) (λ (m : Worker J W). taken_weight h m.thief) ms
+        (λ k d l. same_weight h (get_or ms k d) (bare k d l) (whole k d l)) in
         let z = weigh_none (held_weight h) ms (λ k d l. not_held h (get_or ms k d) (bare k d l)) in
         omega arith;
-    ends = λ w e l. let b : w < length ms = let c = acc.workers in omega arith in let m = some_of ms w b in ends_of false (get_or ms w m).halted (get_or runs w e) (acc.stops w e m b);
+    ends = λ w e l. let b : w < length ms = let c = acc.workers in omega arith in let m =
+        some_of ms w b in ends_of false (get_or ms w m).halted (get_or runs w e) (acc.stops w e m b);
     halted = elim halted [ inl none ↦ inl none | inr any ↦ inr (acc.halted any) ];
   }
     where
@@ -200,21 +224,29 @@ module _ {J W : Type 0} (turned : ℕ → W → J → List J → Bool → W → 
 
 module _ {J W : Type 0} where
   -- whole workers stay whole while their passes stay
-  pub whole_by_frames : (ms ms' : List (Worker J W)) → map (λ (m : Worker J W). frame m.thief) ms' ≡ map (λ (m : Worker J W). frame m.thief) ms → All IsWhole ms → All IsWhole ms'
+  pub whole_by_frames : (ms ms' : List (Worker J W)) → map (λ (m : Worker J W). frame m.thief) ms' ≡ map (λ (m : Worker J W). frame m.thief) ms
+      → All IsWhole ms → All IsWhole ms'
   whole_by_frames ms ms' same whole k d l =
       let f : Worker J W → Id × ℕ × List (Id × ℕ) = λ m. frame m.thief in
       let len : length ms' ≡ length ms = sym (length-map ms' f) ∙ (ap length same ∙ length-map ms f) in
       let b : k < length ms = omega arith in
       let e = at_same f ms' ms k d d l same in
-      let w = whole k d b in
-      (ap (λ (x : Id × ℕ × List (Id × ℕ)). x.1) e ∙ w.0, map_nil victim_frame (get_or ms' k d).thief.victims.items (ap (λ (x : Id × ℕ × List (Id × ℕ)). x.2) e ∙ ap (map victim_frame) w.1))
+      let w = whole k d b in (
+        ap (λ (x : Id × ℕ × List (Id × ℕ)). x.1) e ∙ w.0,
+        map_nil victim_frame (get_or ms' k d).thief.victims.items
+            (ap (λ (x : Id × ℕ × List (Id × ℕ)). x.2) e ∙ ap (map victim_frame) w.1),
+      )
 
-  pub whole_by_work : (turned : ℕ → W → J → List J → Bool → W → Type 0) (ms ms' : List (Worker J W)) → AllWorked turned ms ms' → All IsWhole ms → All IsWhole ms'
+  pub whole_by_work : (turned : ℕ → W → J → List J → Bool → W → Type 0) (ms ms' : List (Worker J W)) → AllWorked turned ms ms' → All IsWhole ms
+      → All IsWhole ms'
   whole_by_work turned ms ms' (len, each) whole k d l =
       let b : k < length ms = omega arith in
       let e = (each k d b).frames in
-      let w = whole k d b in
-      (ap (λ (x : Id × ℕ × List (Id × ℕ)). x.1) e ∙ w.0, map_nil victim_frame (get_or ms' k d).thief.victims.items (ap (λ (x : Id × ℕ × List (Id × ℕ)). x.2) e ∙ ap (map victim_frame) w.1))
+      let w = whole k d b in (
+        ap (λ (x : Id × ℕ × List (Id × ℕ)). x.1) e ∙ w.0,
+        map_nil victim_frame (get_or ms' k d).thief.victims.items
+            (ap (λ (x : Id × ℕ × List (Id × ℕ)). x.2) e ∙ ap (map victim_frame) w.1),
+      )
 
   pub still_pushed : (ms ms' : List (Worker J W)) → AreGathered ms ms' → All LeavesOnlyIfStopped ms → All LeavesOnlyIfStopped ms'
   still_pushed ms ms' g pushed k d l =
@@ -228,7 +260,8 @@ module _ {J W : Type 0} where
       ]
 
   -- where nobody has stopped, nothing is left
-  pub nothing_left : (ms : List (Worker J W)) → list_any (λ (m : Worker J W). m.halted) ms ≡ false → list_any (λ (m : Worker J W). m.refused) ms ≡ false → IsOver ms → All HasNothingLeft ms
+  pub nothing_left : (ms : List (Worker J W)) → list_any (λ (m : Worker J W). m.halted) ms ≡ false → list_any (λ (m : Worker J W). m.refused) ms ≡ false
+      → IsOver ms → All HasNothingLeft ms
   nothing_left ms no_halt no_refusal over =
       elim over [ inl stopped ↦ elim stopped [ inl e ↦ absurd (true_or_false _ e no_halt) | inr e ↦ absurd (true_or_false _ e no_refusal) ] | inr none ↦ none ]
     where
@@ -239,16 +272,30 @@ module _ {J W : Type 0} where
   pub over_of : (ms : List (Worker J W)) → All (λ (m : Worker J W). IsStopped m ⊎ HasNothingLeft m) ms → IsOver ms
   over_of [] all = inr (λ k d l. absurd (omega arith))
   over_of (m ∷ ms) all = elim (over_of ms (All-tail (λ (m : Worker J W). IsStopped m ⊎ HasNothingLeft m) m ms all)) [
-    | inl stopped ↦ inl (elim stopped [ inl e ↦ inl (or_right m.halted (list_any (λ (m : Worker J W). m.halted) ms) e) | inr e ↦ inr (or_right m.refused (list_any (λ (m : Worker J W). m.refused) ms) e) ])
+    | inl stopped ↦
+        inl
+        (elim stopped [
+          | inl e ↦ inl (or_right m.halted (list_any (λ (m : Worker J W). m.halted) ms) e)
+          | inr e ↦
+              inr (or_right m.refused (list_any (λ (m : Worker J W). m.refused) ms) e)
+        ])
     | inr rest ↦ elim (all 0 m (omega arith)) [
-      | inl stops ↦ inl (elim stops [ inl e ↦ inl (or_left m.halted (list_any (λ (m : Worker J W). m.halted) ms) e) | inr e ↦ inr (or_left m.refused (list_any (λ (m : Worker J W). m.refused) ms) e) ])
+      | inl stops ↦
+          inl
+          (elim stops [
+            | inl e ↦ inl (or_left m.halted (list_any (λ (m : Worker J W). m.halted) ms) e)
+            | inr e ↦
+                inr (or_left m.refused (list_any (λ (m : Worker J W). m.refused) ms) e)
+          ])
       | inr here ↦ inr (All-cons HasNothingLeft m ms here rest)
     ]
   ]
 
   -- what was done on all workers, and then the jobs that are left taken
-  pub whole_run : (turned : ℕ → W → J → List J → Bool → W → Type 0) (first : J) (owns : List W) (runs : List (List (Turn J))) (ms ms3 ms4 : List (Worker J W)) (out : List J) (owns' : List W)
-      → Account turned first owns runs ms [] → RanAll turned ms ms3 → AllMoved ms3 [] ms4 out → All HasNothingLeft ms4 → (out ≡ []) ⊎ (list_any (λ (m : Worker J W). m.halted) ms3 ≡ true)
+  pub whole_run : (turned : ℕ → W → J → List J → Bool → W → Type 0) (first : J) (owns : List W) (runs : List (List (Turn J))) (ms ms3 ms4 : List (Worker J W))
+      (out : List J) (owns' : List W)
+      → Account turned first owns runs ms [] → RanAll turned ms ms3 → AllMoved ms3 [] ms4 out → All HasNothingLeft ms4
+      → (out ≡ []) ⊎ (list_any (λ (m : Worker J W). m.halted) ms3 ≡ true)
       → owns' ≡ map (λ (m : Worker J W). m.own) ms4 → TurnedOrLeft turned first owns out owns'
   whole_run turned first owns runs ms ms3 ms4 out owns' begun (ms1, ms2, worked, gathered, rest) moved none halted is =
       let a = worked_on turned first owns runs ms ms1 [] worked begun in

@@ -1,5 +1,6 @@
 -- The passes of the workers are made one after another.
-use Rattle.std.proofs.Common.{◌≡◌, ◌≢◌, ℕ, ◌+◌, ◌-◌, ◌<◌, ◌≤◌, List, [], ◌∷◌, ◌++◌, length, set, get_or, map, take, All, Vec, Global, inl, inr, sym, refl, ap, ◌∙◌, subst, arith, append_assoc, length-append}
+use Rattle.std.proofs.Common.{◌≡◌, ◌≢◌, ℕ, ◌+◌, ◌-◌, ◌<◌, ◌≤◌, List, [], ◌∷◌, ◌++◌, length, set, get_or, map, take, All}
+use Rattle.std.proofs.Common.{Vec, Global, inl, inr, sym, refl, ap, ◌∙◌, subst, arith, append_assoc, length-append}
 use Rattle.std.proofs.lemmas.Bool.{cases_eq}
 use Rattle.std.proofs.lemmas.List.Elements.{All-tail}
 use Rattle.std.proofs.lemmas.List.{get_or-set_same, get_or-set_other, get_or-map, map_more, map-append, length-set, append-nil, get_or_default}
@@ -30,7 +31,8 @@ module _ {J : Type 0} where
     fresh = λ k d l. absurd (omega arith);
   }
 
-  pub one_more : (made : ℕ) (old owns : List (OwnDeque J)) (k : ℕ) (row : List (Victim J)) (o : OwnDeque J) (r : Victim J) → k < length owns → length owns ≡ length old → RowSoFar made old owns k row
+  pub one_more : (made : ℕ) (old owns : List (OwnDeque J)) (k : ℕ) (row : List (Victim J)) (o : OwnDeque J) (r : Victim J) → k < length owns
+      → length owns ≡ length old → RowSoFar made old owns k row
       → own_id o ≡ own_id (get_or owns k o) → own_tally o ≡ cut_off (own_tally (get_or owns k o)) → o.found_empty ≡ (get_or owns k o).found_empty
       → victim_id r ≡ own_id (get_or owns k o) → victim_tally r ≡ tally 1 [] [] → r.found_empty ≡ 0 → RowSoFar made old (set owns k o) (k + 1) (row ++ r ∷ [])
   one_more made old owns k row o r l len so id is found_empty rid rhand rfound =
@@ -40,7 +42,8 @@ module _ {J : Type 0} where
       let now : HasMade (made + 1) o = (tallies, found_empty ∙ here.1) in
       let inside : k < length old = omega arith in
       let e = own_id o in
-      let there : own_id (get_or owns k o) ≡ own_id (get_or old k o) = sym (get_or-map own_id owns k o e l) ∙ (ap (λ xs. get_or xs k e) so.ids ∙ get_or-map own_id old k o e inside) in
+      let there : own_id (get_or owns k o) ≡ own_id (get_or old k o) =
+      sym (get_or-map own_id owns k o e l) ∙ (ap (λ xs. get_or xs k e) so.ids ∙ get_or-map own_id old k o e inside) in
       record {
         ids = map-set_same own_id owns k o o id ∙ so.ids;
         done = λ i d below. elim (cases_eq i k) [
@@ -54,21 +57,27 @@ module _ {J : Type 0} where
       }
 
   -- the same, with the deque as it was read
-  pub one_more_at : (made : ℕ) (old owns : List (OwnDeque J)) (k : ℕ) (row : List (Victim J)) (e o : OwnDeque J) (r : Victim J) → k < length owns → length owns ≡ length old → RowSoFar made old owns k row
-      → e ≡ get_or owns k e → own_id o ≡ own_id e → own_tally o ≡ cut_off (own_tally e) → o.found_empty ≡ e.found_empty → victim_id r ≡ own_id e → victim_tally r ≡ tally 1 [] [] → r.found_empty ≡ 0
+  pub one_more_at : (made : ℕ) (old owns : List (OwnDeque J)) (k : ℕ) (row : List (Victim J)) (e o : OwnDeque J) (r : Victim J) → k < length owns
+      → length owns ≡ length old → RowSoFar made old owns k row
+      → e ≡ get_or owns k e → own_id o ≡ own_id e → own_tally o ≡ cut_off (own_tally e) → o.found_empty ≡ e.found_empty → victim_id r ≡ own_id e
+      → victim_tally r ≡ tally 1 [] [] → r.found_empty ≡ 0
       → RowSoFar made old (set owns k o) (k + 1) (row ++ r ∷ [])
   one_more_at made old owns k row e o r l len so is id tallies found_empty rid rhand rfound =
       let at : e ≡ get_or owns k o = is ∙ get_or_default owns k e o l in
-      one_more made old owns k row o r l len so (id ∙ ap own_id at) (tallies ∙ ap (λ x. cut_off (own_tally x)) at) (found_empty ∙ ap (λ (x : OwnDeque J). x.found_empty) at) (rid ∙ ap own_id at) rhand rfound
+      one_more made old owns k row o r l len so (id ∙ ap own_id at) (tallies ∙ ap (λ x. cut_off (own_tally x)) at)
+      (found_empty ∙ ap (λ (x : OwnDeque J). x.found_empty) at) (rid ∙ ap own_id at) rhand rfound
 
-  pub whole_row : (made : ℕ) (old owns : List (OwnDeque J)) (k : ℕ) (row : List (Victim J)) → length owns ≤ k → length owns ≡ length old → take k old ≡ old → RowSoFar made old owns k row
+  pub whole_row : (made : ℕ) (old owns : List (OwnDeque J)) (k : ℕ) (row : List (Victim J)) → length owns ≤ k → length owns ≡ length old → take k old ≡ old
+      → RowSoFar made old owns k row
       → (map own_id owns ≡ map own_id old) × All (HasMade (made + 1)) owns × IsRow (map own_id old) row
   whole_row made old owns k row all len full so = (so.ids, (λ i d l. so.done i d (omega arith)), (so.row_ids ∙ ap (map own_id) full, so.fresh))
 
   pub rows_more : (owns owns' : List (OwnDeque J)) (rows : List (Vec (Victim J) Global)) (row : Vec (Victim J) Global) → map own_id owns' ≡ map own_id owns
-      → All (λ (v : Vec (Victim J) Global). IsRow (map own_id owns) v.items) rows → IsRow (map own_id owns) row.items → All (λ (v : Vec (Victim J) Global). IsRow (map own_id owns') v.items) (rows ++ row ∷ [])
+      → All (λ (v : Vec (Victim J) Global). IsRow (map own_id owns) v.items) rows → IsRow (map own_id owns) row.items
+      → All (λ (v : Vec (Victim J) Global). IsRow (map own_id owns') v.items) (rows ++ row ∷ [])
   rows_more owns owns' rows row same all one =
-      subst (λ ids. All (λ (v : Vec (Victim J) Global). IsRow ids v.items) (rows ++ row ∷ [])) (sym same) (All-snoc (λ (v : Vec (Victim J) Global). IsRow (map own_id owns) v.items) rows row all one)
+      subst (λ ids. All (λ (v : Vec (Victim J) Global). IsRow ids v.items) (rows ++ row ∷ [])) (sym same)
+      (All-snoc (λ (v : Vec (Victim J) Global). IsRow (map own_id owns) v.items) rows row all one)
 
   -- the first workers were made
   pub record Making (n : ℕ) (ids : List Id) (all : List (Thief J)) (rest : List (OwnDeque J)) (rows : List (Vec (Victim J) Global)) : Type 0 where
@@ -79,7 +88,8 @@ module _ {J : Type 0} where
     pub count : length rows ≡ length rest
     pub total : length all + length rest ≡ n
 
-  pub none_made : (n w : ℕ) (owns rest : List (OwnDeque J)) (all : List (Thief J)) (rows : List (Vec (Victim J) Global)) → all ≡ [] → rest ≡ owns → w ≡ n → All (HasMade w) owns
+  pub none_made : (n w : ℕ) (owns rest : List (OwnDeque J)) (all : List (Thief J)) (rows : List (Vec (Victim J) Global)) → all ≡ [] → rest ≡ owns → w ≡ n
+      → All (HasMade w) owns
       → All (λ (v : Vec (Victim J) Global). IsRow (map own_id owns) v.items) rows → length rows ≡ w → length owns ≡ n → Making n (map own_id owns) all rest rows
   none_made n w owns rest all rows none is same made are len len' =
       let f : Thief J → Id = λ t. own_id t.own in
@@ -92,7 +102,8 @@ module _ {J : Type 0} where
         total = let a = ap length is in let b = ap length none in omega arith;
       }
 
-  pub made_more : (n : ℕ) (ids : List Id) (all : List (Thief J)) (rest rest' : List (OwnDeque J)) (rows rows' : List (Vec (Victim J) Global)) (o : OwnDeque J) (row : Vec (Victim J) Global) (t : Thief J)
+  pub made_more : (n : ℕ) (ids : List Id) (all : List (Thief J)) (rest rest' : List (OwnDeque J)) (rows rows' : List (Vec (Victim J) Global)) (o : OwnDeque J)
+      (row : Vec (Victim J) Global) (t : Thief J)
       → rest ≡ o ∷ rest' → rows ≡ rows' ++ row ∷ [] → t.own ≡ o → t.victims ≡ row → Making n ids all rest rows → Making n ids (all ++ t ∷ []) rest' rows'
   made_more n ids all rest rest' rows rows' o row t is is' own victims m =
       let have : All (HasMade n) (o ∷ rest') = subst (All (HasMade n)) is m.rest_made in
@@ -101,14 +112,19 @@ module _ {J : Type 0} where
       record {
         in_order = (λ i. map-append f all (t ∷ []) i ++ map own_id rest') ∙ (append_assoc (map f all) (own_id t.own ∷ []) (map own_id rest')
             ∙ (ap (λ (w : OwnDeque J). map f all ++ (own_id w ∷ map own_id rest')) own ∙ (ap (λ r. map f all ++ map own_id r) (sym is) ∙ m.in_order)));
-        done = All-snoc (λ (t : Thief J). HasMade n t.own × IsRow ids t.victims.items) all t m.done (subst (HasMade n) (sym own) (have 0 o (omega arith)), subst (λ (v : Vec (Victim J) Global). IsRow ids v.items) (sym victims) (All-last (λ (v : Vec (Victim J) Global). IsRow ids v.items) rows' row given));
+        done = All-snoc (λ (t : Thief J). HasMade n t.own × IsRow ids t.victims.items) all t m.done (
+          subst (HasMade n) (sym own) (have 0 o (omega arith)),
+          subst (λ (v : Vec (Victim J) Global). IsRow ids v.items) (sym victims)
+              (All-last (λ (v : Vec (Victim J) Global). IsRow ids v.items) rows' row given),
+        );
         rest_made = All-tail (HasMade n) o rest' have;
         are_rows = All-init (λ (v : Vec (Victim J) Global). IsRow ids v.items) rows' row given;
         count = let a = ap length is in let b = ap length is' in omega (arith, a, b, m.count, length-append rows' (row ∷ []));
         total = let a = ap length is in omega (arith, a, m.total, length-append all (t ∷ []));
       }
 
-  pub all_made : (n : ℕ) (ids : List Id) (all : List (Thief J)) (rest : List (OwnDeque J)) (rows : List (Vec (Victim J) Global)) → rest ≡ [] → Making n ids all rest rows → (length all ≡ n) × AreNew all
+  pub all_made : (n : ℕ) (ids : List Id) (all : List (Thief J)) (rest : List (OwnDeque J)) (rows : List (Vec (Victim J) Global)) → rest ≡ []
+      → Making n ids all rest rows → (length all ≡ n) × AreNew all
   all_made n ids all rest rows none m =
       let len : length all ≡ n = let a = ap length none in omega (arith, a, m.total) in
       let f : Thief J → Id = λ t. own_id t.own in

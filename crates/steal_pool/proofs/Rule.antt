@@ -12,12 +12,14 @@ weigh-append h [] ys = omega arith
 weigh-append h (x ∷ xs) ys = omega (arith, weigh-append h xs ys)
 
 -- the total after a change of one
-total_set : {A : Type 0} (f : A → ℕ) (views : List A) (port : ℕ) (v w : A) → get_elem? views port ≡ some v → weigh f (set views port w) + f v ≡ weigh f views + f w
+total_set : {A : Type 0} (f : A → ℕ) (views : List A) (port : ℕ) (v w : A) → get_elem? views port ≡ some v
+    → weigh f (set views port w) + f v ≡ weigh f views + f w
 total_set f [] port v w e = absurd (some-ne-none v (sym e))
 total_set f (x ∷ xs) zero v w e = let same : f x ≡ f v = ap f (some-injective _ _ e) in omega arith
 total_set f (x ∷ xs) (suc port) v w e = omega (arith, total_set f xs port v w e)
 
-idle_set : {J : Type 0} (views : List (Tally J)) (port : ℕ) (w : Tally J) → (w.parts ≡ 0 → (w.put ≡ []) × (w.taken ≡ [])) → IdleIsEmpty views → IdleIsEmpty (set views port w)
+idle_set : {J : Type 0} (views : List (Tally J)) (port : ℕ) (w : Tally J) → (w.parts ≡ 0 → (w.put ≡ []) × (w.taken ≡ [])) → IdleIsEmpty views
+    → IdleIsEmpty (set views port w)
 idle_set views port w idle old j u e none =
     ⊎_elim (λ (x : (j ≡ port) × (w ≡ u)). subst (λ (y : Tally _). y.parts ≡ 0 → (y.put ≡ []) × (y.taken ≡ [])) x.1 idle none)
     (λ (x : (j ≢ port) × (get_elem? views j ≡ some u)). old j u x.1 none) (at_set views port j w u e)
@@ -97,7 +99,8 @@ merges {J} port v other u some_part items views b at two at' =
     )
 
 -- where the parts add up to 0, so does what each pass has put or taken
-none_else : {J : Type 0} (f : Tally J → ℕ) → ((u : Tally J) → u.put ≡ [] → u.taken ≡ [] → f u ≡ 0) → (views : List (Tally J)) → IdleIsEmpty views → weigh (λ u. u.parts) views ≡ 0 → weigh f views ≡ 0
+none_else : {J : Type 0} (f : Tally J → ℕ) → ((u : Tally J) → u.put ≡ [] → u.taken ≡ [] → f u ≡ 0) → (views : List (Tally J)) → IdleIsEmpty views
+    → weigh (λ u. u.parts) views ≡ 0 → weigh f views ≡ 0
 none_else f nil [] idle e = refl
 none_else f nil (x ∷ xs) idle e =
     let here : x.parts ≡ 0 = omega arith in

@@ -1,5 +1,6 @@
 -- How a run starts.
-use Rattle.std.proofs.Common.{◌≡◌, ℕ, zero, suc, ◌<◌, Bool, true, false, List, [], ◌∷◌, length, set, get_or, map, All, Vec, Global, inl, sym, refl, ap, ◌∙◌, subst, arith}
+use Rattle.std.proofs.Common.{◌≡◌, ℕ, zero, suc, ◌<◌, Bool, true, false, List, [], ◌∷◌, length, set}
+use Rattle.std.proofs.Common.{get_or, map, All, Vec, Global, inl, sym, refl, ap, ◌∙◌, subst, arith}
 use Rattle.std.proofs.lemmas.List.Folds.{list_any_none}
 use Rattle.std.specs.Option.{option_to_list}
 use Rattle.std.proofs.lemmas.List.{get_or-map, length-set, length-map}
@@ -24,14 +25,17 @@ module _ {J : Type 0} where
   pub nothing_put : (h : J → ℕ) (n : ℕ) (ids : List Id) (t : Thief J) → HasMade n t.own × IsRow ids t.victims.items → put_weight h t ≡ 0
   nothing_put h n ids t new =
       let a = ap (λ (v : Tally J). weigh h v.put) new.0.0 in
-      let b = weigh_none (λ (r : Victim J). weigh h (victim_tally r).put) t.victims.items (λ k d l. ap (λ (v : Tally J). weigh h v.put) (new.1.1 k d l).0) in omega arith
+      let b = weigh_none (λ (r : Victim J). weigh h (victim_tally r).put) t.victims.items (λ k d l. ap (λ (v : Tally J). weigh h v.put) (new.1.1 k d l).0) in
+      omega arith
 
   pub nothing_taken : (h : J → ℕ) (n : ℕ) (ids : List Id) (t : Thief J) → HasMade n t.own × IsRow ids t.victims.items → taken_weight h t ≡ 0
   nothing_taken h n ids t new =
       let a = ap (λ (v : Tally J). weigh h v.taken) new.0.0 in
-      let b = weigh_none (λ (r : Victim J). weigh h (victim_tally r).taken) t.victims.items (λ k d l. ap (λ (v : Tally J). weigh h v.taken) (new.1.1 k d l).0) in omega arith
+      let b = weigh_none (λ (r : Victim J). weigh h (victim_tally r).taken) t.victims.items
+      (λ k d l. ap (λ (v : Tally J). weigh h v.taken) (new.1.1 k d l).0) in omega arith
 
-  pub frames_of_row : (row : List (Victim J)) → ((k : ℕ) (d : Victim J) → k < length row → (victim_tally (get_or row k d) ≡ tally 1 [] []) × ((get_or row k d).found_empty ≡ 0))
+  pub frames_of_row : (row : List (Victim J))
+      → ((k : ℕ) (d : Victim J) → k < length row → (victim_tally (get_or row k d) ≡ tally 1 [] []) × ((get_or row k d).found_empty ≡ 0))
       → map victim_frame row ≡ map (λ (i : Id). (i, 1)) (map victim_id row)
   frames_of_row [] all = refl
   frames_of_row (r ∷ row) all =
@@ -72,7 +76,8 @@ module _ {J W : Type 0} where
         map-set_same (λ (x : Worker J W). frame x.thief) ms 0 m m (λ i. (id i, (put i).parts, map victim_frame (victims i).items)) in
         let marks : map mark_of ms1 ≡ map mark_of ms = map-set_same mark_of ms 0 m m (λ i. (id i, 1)) in
         let ids : map id_of ms ≡ start.thieves.0 = map_map (λ (x : Worker J W). x.thief) (λ (t : Thief J). own_id t.own) ms ∙ start.thieves.1 in
-        let mark_ids : map mark_of ms ≡ map (λ (i : Id). (i, 1)) start.thieves.0 = map_map id_of (λ (i : Id). (i, 1)) ms ∙ ap (map (λ (i : Id). (i, 1))) ids in (
+        let mark_ids : map mark_of ms ≡ map (λ (i : Id). (i, 1)) start.thieves.0 =
+        map_map id_of (λ (i : Id). (i, 1)) ms ∙ ap (map (λ (i : Id). (i, 1))) ids in (
           (omega arith),
           λ k d l.
               let b : k < length ms = omega arith in
@@ -80,7 +85,8 @@ module _ {J W : Type 0} where
               let e = at_same (λ (x : Worker J W). frame x.thief) ms1 ms k d d l frames_same in
               let parts = ap (λ (x : Id × ℕ × List (Id × ℕ)). x.1) e ∙ ap (λ (v : Tally J). v.parts) new.0.0 in (
                 omega arith,
-                ap (λ (x : Id × ℕ × List (Id × ℕ)). x.2) e ∙ (frames_of_row (get_or ms k d).thief.victims.items new.1.1 ∙ (ap (map (λ (i : Id). (i, 1))) new.1.0 ∙ (sym mark_ids ∙ sym marks))),
+                ap (λ (x : Id × ℕ × List (Id × ℕ)). x.2) e
+                    ∙ (frames_of_row (get_or ms k d).thief.victims.items new.1.1 ∙ (ap (map (λ (i : Id). (i, 1))) new.1.0 ∙ (sym mark_ids ∙ sym marks))),
               ),
         )
 
@@ -89,12 +95,16 @@ module _ {J W : Type 0} where
         let now = get_or ms 0 m in
         let ms1 = set ms 0 m in
         let len = length-set ms 0 m in
-        let p0 = λ (h : J → ℕ). weigh_none (λ (x : Worker J W). put_weight h x.thief) ms (λ k d l. nothing_put h (length ms) start.thieves.0 (get_or ms k d).thief (thief_at owns ms start k d l)) in
-        let t0 = λ (h : J → ℕ). weigh_none (λ (x : Worker J W). taken_weight h x.thief) ms (λ k d l. nothing_taken h (length ms) start.thieves.0 (get_or ms k d).thief (thief_at owns ms start k d l)) in
-        let h0 = λ (h : J → ℕ). weigh_none (held_weight h) ms (λ k d l. let f = start.free k d l in let a = ap (λ o. weigh h (option_to_list o)) f.0 in let b = ap (weigh h) f.1 in omega arith) in
+        let p0 = λ (h : J → ℕ). weigh_none (λ (x : Worker J W). put_weight h x.thief) ms
+        (λ k d l. nothing_put h (length ms) start.thieves.0 (get_or ms k d).thief (thief_at owns ms start k d l)) in
+        let t0 = λ (h : J → ℕ). weigh_none (λ (x : Worker J W). taken_weight h x.thief) ms
+        (λ k d l. nothing_taken h (length ms) start.thieves.0 (get_or ms k d).thief (thief_at owns ms start k d l)) in
+        let h0 = λ (h : J → ℕ). weigh_none (held_weight h) ms
+        (λ k d l. let f = start.free k d l in let a = ap (λ o. weigh h (option_to_list o)) f.0 in let b = ap (weigh h) f.1 in omega arith) in
         record {
           values = map-set_same (λ (x : Worker J W). x.own) ms 0 m m own ∙ start.values;
-          numbers = λ i d l. at_same (λ (x : Worker J W). x.number) ms1 ms i d d l (map-set_same (λ (x : Worker J W). x.number) ms 0 m m number) ∙ start.workers i d (omega (arith, len));
+          numbers = λ i d l. at_same (λ (x : Worker J W). x.number) ms1 ms i d d l (map-set_same (λ (x : Worker J W). x.number) ms 0 m m number)
+              ∙ start.workers i d (omega (arith, len));
           free = λ k d l.
               let f = start.free k d (omega (arith, len)) in (
                 ap (λ x. x.items) (at_same (λ (x : Worker J W). x.left) ms1 ms k d d l (map-set_same (λ (x : Worker J W). x.left) ms 0 m m left)) ∙ f.1,
@@ -119,7 +129,8 @@ module _ {J W : Type 0} where
         }
 
   -- the account of a run that has started
-  pub begun : (turned : ℕ → W → J → List J → Bool → W → Type 0) (owns : List W) (first : J) (ms : List (Worker J W)) → AreStarted owns first ms → Account turned first owns (map no_turns ms) ms []
+  pub begun : (turned : ℕ → W → J → List J → Bool → W → Type 0) (owns : List W) (first : J) (ms : List (Worker J W)) → AreStarted owns first ms
+      → Account turned first owns (map no_turns ms) ms []
   begun turned owns first ms start =
       let none : Worker J W → List (Turn J) = no_turns in
       let values = start.values in
@@ -145,7 +156,8 @@ module _ {J W : Type 0} where
   none_stopped owns first ms start k d l = inl (start.free k d l).0
 
   -- the passes stay where turns are made
-  pub still_tied : (turned : ℕ → W → J → List J → Bool → W → Type 0) (ms ms' : List (Worker J W)) → AllWorked turned ms ms' → HaveAllPasses ms → HaveAllPasses ms'
+  pub still_tied : (turned : ℕ → W → J → List J → Bool → W → Type 0) (ms ms' : List (Worker J W)) → AllWorked turned ms ms' → HaveAllPasses ms
+      → HaveAllPasses ms'
   still_tied turned ms ms' (len, each) tied =
       let few = tied.0 in
       let marks : map mark_of ms' ≡ map mark_of ms = map_pointwise mark_of ms ms' len (λ k d l. (λ i. (((each k d l).frames i).0, 1))) in (

@@ -18,7 +18,8 @@ module _ {J W : Type 0} where
   same_count : (ms ms' : List (Worker J W)) → map self_of ms' ≡ map self_of ms → length ms' ≡ length ms
   same_count ms ms' selves = sym (length-map ms' self_of) ∙ (ap length selves ∙ length-map ms self_of)
 
-  module _ (turned : ℕ → W → J → List J → Bool → W → Type 0) (n : ℕ) (ms s ms3 : List (Worker J W)) (count : length ms ≡ n) (at : s ≡ ms) (ran : RanAll turned s ms3) where
+  module _ (turned : ℕ → W → J → List J → Bool → W → Type 0) (n : ℕ) (ms s ms3 : List (Worker J W)) (count : length ms ≡ n) (at : s ≡ ms)
+      (ran : RanAll turned s ms3) where
     ran' : RanAll turned ms ms3
     ran' = subst (λ xs. RanAll turned xs ms3) at ran
 
@@ -44,8 +45,10 @@ module _ {J W : Type 0} where
       pub still_as_many : length (after n (after n ms ms3) ms4) ≡ n
       still_as_many = ap length back4 ∙ count4
 
-      pub turned_or_left : (first : J) (owns owns' : List W) → AreStarted owns first ms → All HasNothingLeft ms4 → (jobs ≡ []) ⊎ (list_any (λ (m : Worker J W). m.halted) s3 ≡ true)
+      pub turned_or_left : (first : J) (owns owns' : List W) → AreStarted owns first ms → All HasNothingLeft ms4
+          → (jobs ≡ []) ⊎ (list_any (λ (m : Worker J W). m.halted) s3 ≡ true)
           → owns' ≡ map (λ (m : Worker J W). m.own) (after n (after n ms ms3) ms4) → TurnedOrLeft turned first owns jobs owns'
       turned_or_left first owns owns' start none halted is =
           whole_run turned first owns (map no_turns ms) ms ms3 ms4 jobs owns' (begun turned owns first ms start) ran' moved' none
-          (subst (λ xs. (jobs ≡ []) ⊎ (list_any (λ (m : Worker J W). m.halted) xs ≡ true)) (at3 ∙ back3) halted) (is ∙ ap (map (λ (m : Worker J W). m.own)) back4)
+          (subst (λ xs. (jobs ≡ []) ⊎ (list_any (λ (m : Worker J W). m.halted) xs ≡ true)) (at3 ∙ back3) halted)
+          (is ∙ ap (map (λ (m : Worker J W). m.own)) back4)

@@ -10,7 +10,8 @@ use Rattle.steal_pool.specs.Turns.{Turn, Chain, StopsAtHalt, EndsAtHalt, Halts}
 use Rattle.steal_pool.specs.Workers.{held_weight, Moved, Worked}
 use Rattle.steal_pool.proofs.Rule.{weigh-append}
 
-pub chain_append : {J W : Type 0} (turned : W → J → List J → Bool → W → Type 0) (w v u : W) (ts us : List (Turn J)) → Chain turned w ts v → Chain turned v us u → Chain turned w (ts ++ us) u
+pub chain_append : {J W : Type 0} (turned : W → J → List J → Bool → W → Type 0) (w v u : W) (ts us : List (Turn J)) → Chain turned w ts v
+    → Chain turned v us u → Chain turned w (ts ++ us) u
 chain_append turned w v u [] us c d = subst (λ z. Chain turned z us u) (sym c) d
 chain_append turned w v u (t ∷ ts) us c d = (c.0, c.1, chain_append turned c.0 v u ts us c.2 d)
 
@@ -43,7 +44,8 @@ pub ends_of : {J : Type 0} (a b : Bool) (ts : List (Turn J)) → StopsAtHalt a t
 ends_of a b [] p = tt
 ends_of a b (t ∷ ts) p = (λ h. nothing_after t.halt b ts p.1 h, ends_of t.halt b ts p.1)
 
-pub was_empty : {J : Type 0} (v w : Tally J) (found_empty found_empty' : ℕ) (result : Option J) → result ≡ None → TookFirst v found_empty w found_empty' result → WasEmpty w
+pub was_empty : {J : Type 0} (v w : Tally J) (found_empty found_empty' : ℕ) (result : Option J) → result ≡ None
+    → TookFirst v found_empty w found_empty' result → WasEmpty w
 was_empty v w f f' None e took = subst WasEmpty (sym took.0) took.2
 was_empty v w f f' (Some x) e took = cc
 
@@ -75,7 +77,8 @@ module _ {J W : Type 0} where
   }
 
   -- the first of the jobs that are to be pushed was pushed
-  pub pushed_one : (m m' m2 : Worker J W) (xs rest rest' : List J) (job : J) → rest ≡ job ∷ rest' → m2.number ≡ m'.number → m2.own ≡ m'.own → m2.halted ≡ m'.halted → m2.next ≡ m'.next → m2.left ≡ m'.left
+  pub pushed_one : (m m' m2 : Worker J W) (xs rest rest' : List J) (job : J) → rest ≡ job ∷ rest' → m2.number ≡ m'.number → m2.own ≡ m'.own
+      → m2.halted ≡ m'.halted → m2.next ≡ m'.next → m2.left ≡ m'.left
       → Transfers m'.thief m2.thief (job ∷ []) [] → Moved m xs m' rest → Moved m xs m2 rest'
   pushed_one m m' m2 xs rest rest' job is number own halted tally left s p = moved_then m m' m2 xs rest rest' p (record {
     frames = s.frames;
@@ -90,8 +93,10 @@ module _ {J W : Type 0} where
   })
 
   -- it was refused, and is left with the others
-  pub refused_one : (m m' m2 : Worker J W) (xs rest rest' : List J) (job back : J) → rest ≡ job ∷ rest' → back ≡ job → m'.left.items ≡ [] → m2.left.items ≡ rest' ++ back ∷ []
-      → m2.number ≡ m'.number → m2.own ≡ m'.own → m2.halted ≡ m'.halted → m2.next ≡ m'.next → Transfers m'.thief m2.thief [] [] → Moved m xs m' rest → Moved m xs m2 []
+  pub refused_one : (m m' m2 : Worker J W) (xs rest rest' : List J) (job back : J) → rest ≡ job ∷ rest' → back ≡ job → m'.left.items ≡ []
+      → m2.left.items ≡ rest' ++ back ∷ []
+      → m2.number ≡ m'.number → m2.own ≡ m'.own → m2.halted ≡ m'.halted → m2.next ≡ m'.next → Transfers m'.thief m2.thief [] [] → Moved m xs m' rest
+      → Moved m xs m2 []
   refused_one m m' m2 xs rest rest' job back is same none left number own halted tally s p = moved_then m m' m2 xs rest [] p (record {
     frames = s.frames;
     number = number;
@@ -124,7 +129,14 @@ module _ {J W : Type 0} where
       turns = p.turns ++ q.turns;
       chain = chain_append (turned a.number) a.own b.own c.own p.turns q.turns p.chain (subst (λ n. Chain (turned n) b.own q.turns c.own) p.number q.chain);
       stops = stops_append a.halted b.halted c.halted p.turns q.turns p.stops q.stops;
-      balance = λ h. omega (arith, p.balance h, q.balance h, weigh-append (λ (t : Turn J). h t.job) p.turns q.turns, weigh-append (λ (t : Turn J). weigh h t.more) p.turns q.turns);
+      balance =
+          λ h. omega (
+            arith,
+            p.balance h,
+            q.balance h,
+            weigh-append (λ (t : Turn J). h t.job) p.turns q.turns,
+            weigh-append (λ (t : Turn J). weigh h t.more) p.turns q.turns,
+          );
     }
 
     -- no turn was done
@@ -132,11 +144,14 @@ module _ {J W : Type 0} where
     no_turn m = from_moved m m [] [] (still m [])
 
     -- a job was found, and then turned
-    pub one_more : (a b c d : Worker J W) (job : J) → Worked turned a [] b [] → Moved b [] c (job ∷ []) → Worked turned c (job ∷ []) d [] → Worked turned a [] d []
+    pub one_more : (a b c d : Worker J W) (job : J) → Worked turned a [] b [] → Moved b [] c (job ∷ []) → Worked turned c (job ∷ []) d []
+        → Worked turned a [] d []
     one_more a b c d job before found done = worked_then a b d [] [] [] before (worked_then b c d [] (job ∷ []) [] (from_moved b c [] (job ∷ []) found) done)
 
-    pub one_turn : (m m2 : Worker J W) (job : J) (more went : List J) (halt : Bool) → turned m.number m.own job more halt m2.own → m2.thief ≡ m.thief → m2.number ≡ m.number
-        → m.halted ≡ false → m2.halted ≡ halt → ((h : J → ℕ) → weigh h more + held_weight h m ≡ weigh h went + held_weight h m2) → Worked turned m (job ∷ []) m2 went
+    pub one_turn : (m m2 : Worker J W) (job : J) (more went : List J) (halt : Bool) → turned m.number m.own job more halt m2.own → m2.thief ≡ m.thief
+        → m2.number ≡ m.number
+        → m.halted ≡ false → m2.halted ≡ halt → ((h : J → ℕ) → weigh h more + held_weight h m ≡ weigh h went + held_weight h m2)
+        → Worked turned m (job ∷ []) m2 went
     one_turn m m2 job more went halt done thief number fresh halted balance = record {
       frames = ap frame thief;
       number = number;

@@ -41,7 +41,8 @@ module _ (past : List Event) (sp : IsSoundPast past) (t s : ℕ) where
   he_at : (a : Action) → MayFollow past (ev t s a) → Among s (hebrew_past past)
   he_at a m = (whole_he past sp).all s (stands_below past (ev t s a) sp m)
 
-  english_more : (a : Action) → MayFollow past (ev t s a) → length (english_past past) ≡ next_strand past → length (english_past (ev t s a ∷ past)) ≡ next_strand (ev t s a ∷ past)
+  english_more : (a : Action) → MayFollow past (ev t s a) → length (english_past past) ≡ next_strand past
+      → length (english_past (ev t s a ∷ past)) ≡ next_strand (ev t s a ∷ past)
   english_more (Reads _ _) m h = absurd m.acts
   english_more (Writes _ _) m h = absurd m.acts
   english_more (Spawns code c k y args) m h = more_strands s _ _ 2 (k ∷ y ∷ []) _ (en_at (Spawns code c k y args) m) h refl refl
@@ -50,7 +51,8 @@ module _ (past : List Event) (sp : IsSoundPast past) (t s : ℕ) where
   english_more (Gets f g x) m h = more_strands s _ _ 1 (x ∷ []) _ (en_at (Gets f g x) m) h refl refl
   english_more (Ends v) m h = omega (arith, h)
 
-  hebrew_more : (a : Action) → MayFollow past (ev t s a) → length (hebrew_past past) ≡ next_strand past → length (hebrew_past (ev t s a ∷ past)) ≡ next_strand (ev t s a ∷ past)
+  hebrew_more : (a : Action) → MayFollow past (ev t s a) → length (hebrew_past past) ≡ next_strand past
+      → length (hebrew_past (ev t s a ∷ past)) ≡ next_strand (ev t s a ∷ past)
   hebrew_more (Reads _ _) m h = absurd m.acts
   hebrew_more (Writes _ _) m h = absurd m.acts
   hebrew_more (Spawns code c k y args) m h = more_strands s _ _ 2 (y ∷ k ∷ []) _ (he_at (Spawns code c k y args) m) h refl refl

@@ -27,7 +27,8 @@ one_moves past t q x k = elim (cases_eq q t) [
   | inr ne ↦ (k.0, if_off q t (Some x) (current past q) ne ∙ k.1)
 ]
 
-one_begins : (past : List Event) (t c q y k : ℕ) → (q ≢ c → (a : ℕ) × (current past q ≡ Some a)) → (a : ℕ) × ((if q == t then Some y else (if q == c then Some k else current past q)) ≡ Some a)
+one_begins : (past : List Event) (t c q y k : ℕ) → (q ≢ c → (a : ℕ) × (current past q ≡ Some a))
+    → (a : ℕ) × ((if q == t then Some y else (if q == c then Some k else current past q)) ≡ Some a)
 one_begins past t c q y k h = elim (cases_eq q t) [
   | inl e ↦ (y, if_on q t (Some y) (if q == c then Some k else current past q) e)
   | inr ne ↦ elim (cases_eq q c) [
@@ -36,7 +37,8 @@ one_begins past t c q y k h = elim (cases_eq q t) [
   ]
 ]
 
-stands_next : (past : List Event) → ((q : ℕ) → q < next_task past → (a : ℕ) × (current past q ≡ Some a)) → (t s : ℕ) (a : Action) → MayFollow past (ev t s a) → (q : ℕ) → q < next_task (ev t s a ∷ past) → (b : ℕ) × (current (ev t s a ∷ past) q ≡ Some b)
+stands_next : (past : List Event) → ((q : ℕ) → q < next_task past → (a : ℕ) × (current past q ≡ Some a)) → (t s : ℕ) (a : Action) → MayFollow past (ev t s a)
+    → (q : ℕ) → q < next_task (ev t s a ∷ past) → (b : ℕ) × (current (ev t s a ∷ past) q ≡ Some b)
 stands_next past ih t s (Reads _ _) m q l = absurd m.acts
 stands_next past ih t s (Writes _ _) m q l = absurd m.acts
 stands_next past ih t s (Spawns code c k y args) m q l = one_begins past t c q y k (λ n. ih q (let e : c ≡ next_task past = m.acts.0 in omega arith))
@@ -49,7 +51,8 @@ stands_somewhere : (past : List Event) → IsSoundPast past → (q : ℕ) → q 
 stands_somewhere [] sp q l = (0, if_on q 0 (Some 0) None (omega arith))
 stands_somewhere (e ∷ past) sp q l = stands_next past (stands_somewhere past sp.0) e.task e.strand e.action sp.1 q l
 
-least_waits : (past : List Event) → IsSoundPast past → (t b : ℕ) → IsLeast past t b → (q : ℕ) → q < next_task past → spot past q < spot past t → (last : ℕ) × (last_of past q ≡ Some last)
+least_waits : (past : List Event) → IsSoundPast past → (t b : ℕ) → IsLeast past t b → (q : ℕ) → q < next_task past → spot past q < spot past t
+    → (last : ℕ) × (last_of past q ≡ Some last)
 least_waits past sp t b k q lq h = go (frame past q).ended refl
   where
     l : Linked past
@@ -65,7 +68,8 @@ least_waits past sp t b k q lq h = go (frame past q).ended refl
         elim (k.least q st.0 st.1 run) [
           | inl i ↦ absurd (let z : spot past q ≡ spot past t = ap (λ z. spot past z) i in omega arith)
           | inr i ↦ absurd (
-              let ne : b ≢ st.0 = λ z. (let w : place b (english_past past) ≡ place st.0 (english_past past) = ap (λ z. place z (english_past past)) z in omega arith) in
+              let ne : b ≢ st.0 =
+              λ z. (let w : place b (english_past past) ≡ place st.0 (english_past past) = ap (λ z. place z (english_past past)) z in omega arith) in
               let p : place b (english_past past) < place st.0 (english_past past) = before_place b st.0 (english_past past) ne i in
               omega arith)
         ]
@@ -81,7 +85,8 @@ least_waits_for_none past sp t b k q (inr h) =
 pub try_means_path : TryMeansPath
 try_means_path past sp u v a = (there, back)
   where
-    there : ReachesBy (edges_past past) u v → ((home_of past u ≡ home_of past v) × ((u ≡ v) ⊎ (precedes_past past u v ≡ true))) ⊎ ((home_of past u ≢ home_of past v) × Covers past (table_past past v) u)
+    there : ReachesBy (edges_past past) u v → ((home_of past u ≡ home_of past v) × ((u ≡ v) ⊎ (precedes_past past u v ≡ true)))
+        ⊎ ((home_of past u ≢ home_of past v) × Covers past (table_past past v) u)
     there r = elim (cases_eq (home_of past u) (home_of past v)) [
       | inl h ↦ inl (
         h,
@@ -93,7 +98,8 @@ try_means_path past sp u v a = (there, back)
       | inr n ↦ inr (n, (table_means_path past sp u v a n).0 r)
     ]
 
-    back : ((home_of past u ≡ home_of past v) × ((u ≡ v) ⊎ (precedes_past past u v ≡ true))) ⊎ ((home_of past u ≢ home_of past v) × Covers past (table_past past v) u) → ReachesBy (edges_past past) u v
+    back : ((home_of past u ≡ home_of past v) × ((u ≡ v) ⊎ (precedes_past past u v ≡ true)))
+        ⊎ ((home_of past u ≢ home_of past v) × Covers past (table_past past v) u) → ReachesBy (edges_past past) u v
     back (inl k) = reach_of_far past u v (elim k.1 [
       | inl e ↦ subst (λ z. Far (layers past) u z) e (far_refl (layers past) u)
       | inr p ↦ elim (cases_eq u v) [

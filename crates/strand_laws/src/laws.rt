@@ -1,5 +1,6 @@
 //! Laws of sound lists of events.
-ghost use Rattle.strand_laws.specs.Laws.{PrecedesMeansPath, PathsStayInside, TableMeansPath, TableHasOne, WaitedStandsBefore, CurrentEndsPaths, PathsAreKept, LeastWaitsForNone, TryMeansPath, StructureHasEdges, CurrentBelongs, HomesStay, OrdersHaveStrands};
+ghost use Rattle.strand_laws.specs.Laws.{PrecedesMeansPath, PathsStayInside, TableMeansPath, TableHasOne, WaitedStandsBefore, CurrentEndsPaths};
+ghost use Rattle.strand_laws.specs.Laws.{PathsAreKept, LeastWaitsForNone, TryMeansPath, StructureHasEdges, CurrentBelongs, HomesStay, OrdersHaveStrands};
 
 /// Each edge leads to a later strand, and a further event adds no path between strands that were there.
 pub use fut_base::rows::{edges_rise, paths_stay};

@@ -40,23 +40,30 @@ number_is slots (Inverted' p r) = refl
 number_is slots (Pair' p a op q b) = refl
 
 pub negative_is : (t : Term) → IsSigned tree.Negative t (Negative t)
-negative_is t = record { same = λ slots. negative_slot slots t ∙ ap (λ z. One (Int z)) (negative_number slots t ∙ ap (int_wrapping_neg w64) (number_is slots t)) }
+negative_is t =
+    record { same = λ slots. negative_slot slots t ∙ ap (λ z. One (Int z)) (negative_number slots t ∙ ap (int_wrapping_neg w64) (number_is slots t)) }
 
 pub inverted_is : (t : Term) → IsSigned tree.Inverted t (Inverted t)
-inverted_is t = record { same = λ slots. inverted_slot slots t ∙ ap (λ z. One (Int z)) (inverted_number slots t ∙ ap (λ z. truth (is_zero z)) (number_is slots t)) }
+inverted_is t =
+    record { same = λ slots. inverted_slot slots t ∙ ap (λ z. One (Int z)) (inverted_number slots t ∙ ap (λ z. truth (is_zero z)) (number_is slots t)) }
 
-pub means_signed : (names : List Name) (sign : tree.Sign) (p : tree.Primary) (of t : Term) → Means names (λ vars. primary_in vars p) of → IsSigned sign of t → Means names (λ vars. operand_in vars (tree.Signed sign p)) t
+pub means_signed : (names : List Name) (sign : tree.Sign) (p : tree.Primary) (of t : Term) → Means names (λ vars. primary_in vars p) of → IsSigned sign of t
+    → Means names (λ vars. operand_in vars (tree.Signed sign p)) t
 means_signed names sign p of t m h = record { same = λ vars slots k. h.same slots ∙ ap (signed sign) (m.same vars slots k) }
 
-pub each_signed : (names : List Name) (sign : tree.Sign) (p : tree.Primary) (o : tree.Operand) (of : Term) (r : Result Term NoMemory) → o ≡ tree.Signed sign p → Means names (λ vars. primary_in vars p) of → IfOk r (λ t. IsSigned sign of t) → IfOk r (λ t. Means names (λ vars. operand_in vars o) t)
-each_signed names sign p o of (Ok t) is m h = subst (λ (x : tree.Operand). Means names (λ vars. operand_in vars x) t) (sym is) (means_signed names sign p of t m h)
+pub each_signed : (names : List Name) (sign : tree.Sign) (p : tree.Primary) (o : tree.Operand) (of : Term) (r : Result Term NoMemory) → o ≡ tree.Signed sign p
+    → Means names (λ vars. primary_in vars p) of → IfOk r (λ t. IsSigned sign of t) → IfOk r (λ t. Means names (λ vars. operand_in vars o) t)
+each_signed names sign p o of (Ok t) is m h =
+    subst (λ (x : tree.Operand). Means names (λ vars. operand_in vars x) t) (sym is) (means_signed names sign p of t m h)
 each_signed names sign p o of (Err e) is m h = tt
 
-pub all_meant : (names : List Name) (args : List Expr) (i : ℕ) (ts out : List Term) → length args ≤ i → out ≡ ts → ((more : List Term) → MeanAll names (args_tree (drop i args)) more → MeanAll names (args_tree args) (ts ++ more)) → MeanAll names (args_tree args) out
+pub all_meant : (names : List Name) (args : List Expr) (i : ℕ) (ts out : List Term) → length args ≤ i → out ≡ ts
+    → ((more : List Term) → MeanAll names (args_tree (drop i args)) more → MeanAll names (args_tree args) (ts ++ more)) → MeanAll names (args_tree args) out
 all_meant names args i ts out le is h =
     subst (λ c. MeanAll names (args_tree args) c) (append-nil ts ∙ sym is) (h [] (subst (λ d. MeanAll names (args_tree d) []) (sym (drop_all i args le)) tt))
 
-pub means_pair : (names : List Name) (x y : tree.Operand) (op : Operator) (a b : Term) → Means names (λ vars. operand_in vars x) a → Means names (λ vars. operand_in vars y) b → Means names (λ vars. slot_in vars (tree.Pair x (op_tree op) y)) (Pair a op b)
+pub means_pair : (names : List Name) (x y : tree.Operand) (op : Operator) (a b : Term) → Means names (λ vars. operand_in vars x) a
+    → Means names (λ vars. operand_in vars y) b → Means names (λ vars. slot_in vars (tree.Pair x (op_tree op) y)) (Pair a op b)
 means_pair names x y op a b m n =
     record {
       same = λ vars slots h. pair_slot slots a op b ∙ ap (λ z. One (Int z)) (pair_number slots a op b

@@ -7,7 +7,8 @@ use Rattle.fut_syntax.specs.Trees as tree
 use Rattle.fut_syntax.specs.Views.{expr_tree, stmt_tree, block_tree, tail_tree}
 use Rattle.fut_syntax.proofs.Made.{if_tree, while_tree, else_tree}
 
-pub if_made : (s : Stmt) (e : Expr) (body slice : List Stmt) (o : Tail) → s ≡ If e body o → slice ≡ body → stmt_tree s ≡ tree.If' (expr_tree e) (block_tree slice) (tail_tree o)
+pub if_made : (s : Stmt) (e : Expr) (body slice : List Stmt) (o : Tail) → s ≡ If e body o → slice ≡ body
+    → stmt_tree s ≡ tree.If' (expr_tree e) (block_tree slice) (tail_tree o)
 if_made s e body slice o is same = ap stmt_tree (is ∙ ap (λ b. If e b o) (sym same)) ∙ if_tree e slice o
 
 pub while_made : (s : Stmt) (e : Expr) (body slice : List Stmt) → s ≡ While e body → slice ≡ body → stmt_tree s ≡ tree.While' (expr_tree e) (block_tree slice)

@@ -14,32 +14,39 @@ use Rattle.fut_syntax.specs.Trees.{items_of}
 use Rattle.fut_syntax.specs.Views.{item_tree, params_tree, block_tree, items_tree, program_tree}
 use Rattle.task_machine.specs.Texts.{CellArray, arrays_from, count_cells, tasks_from}
 use Rattle.task_frame.specs.declared.names.Name.{Name}
-use Rattle.task_code.specs.declared.code.Given.{Given}
+use Rattle.task_code.specs.declared.code.ParamCode.{ParamCode}
 use Rattle.task_code.specs.declared.code.TaskCode.{TaskCode}
 use Rattle.task_frame.specs.Arrays.{HasCell}
 use Rattle.task_code.specs.Flat.{AreGiven, AreCodesOf, IsCodeOfTask, Compiled, IsCodeOf}
 
-pub all_given : (names : List Name) (params : List Param) (i first : ℕ) (given out : List Given) → length params ≤ i → out ≡ given
-    → ((more : List Given) → AreGiven names first (params_tree (drop i params)) more → AreGiven names 0 (params_tree params) (given ++ more)) → AreGiven names 0 (params_tree params) out
+pub all_given : (names : List Name) (params : List Param) (i first : ℕ) (given out : List ParamCode) → length params ≤ i → out ≡ given
+    → ((more : List ParamCode) → AreGiven names first (params_tree (drop i params)) more → AreGiven names 0 (params_tree params) (given ++ more))
+    → AreGiven names 0 (params_tree params) out
 all_given names params i first given out le is h =
-    subst (λ c. AreGiven names 0 (params_tree params) c) (append-nil given ∙ sym is) (h [] (subst (λ d. AreGiven names first (params_tree d) []) (sym (drop_all i params le)) tt))
+    subst (λ c. AreGiven names 0 (params_tree params) c) (append-nil given ∙ sym is)
+    (h [] (subst (λ d. AreGiven names first (params_tree d) []) (sym (drop_all i params le)) tt))
 
 pub all_coded : (items : List tree.Item) (xs : List Item) (i : ℕ) (codes out : List TaskCode) → length xs ≤ i → out ≡ codes
-    → ((more : List TaskCode) → AreCodesOf items (tasks_from (items_tree (drop i xs))) more → AreCodesOf items (tasks_from (items_tree xs)) (codes ++ more)) → AreCodesOf items (tasks_from (items_tree xs)) out
+    → ((more : List TaskCode) → AreCodesOf items (tasks_from (items_tree (drop i xs))) more → AreCodesOf items (tasks_from (items_tree xs)) (codes ++ more))
+    → AreCodesOf items (tasks_from (items_tree xs)) out
 all_coded items xs i codes out le is h =
-    subst (λ c. AreCodesOf items (tasks_from (items_tree xs)) c) (append-nil codes ∙ sym is) (h [] (subst (λ d. AreCodesOf items (tasks_from (items_tree d)) []) (sym (drop_all i xs le)) tt))
+    subst (λ c. AreCodesOf items (tasks_from (items_tree xs)) c) (append-nil codes ∙ sym is)
+    (h [] (subst (λ d. AreCodesOf items (tasks_from (items_tree d)) []) (sym (drop_all i xs le)) tt))
 
-pub task_coded : (items : List tree.Item) (xs : List Item) (i : ℕ) (x : Item) (name : List ℕ) (ps : List Param) (d : ℕ) (b : List Stmt) (codes next : List TaskCode) (code : TaskCode) → i < length xs → x ≡ get_or xs i x → x ≡ item.Task name ps d b → next ≡ codes ++ code ∷ []
+pub task_coded : (items : List tree.Item) (xs : List Item) (i : ℕ) (x : Item) (name : List ℕ) (ps : List Param) (d : ℕ) (b : List Stmt)
+    (codes next : List TaskCode) (code : TaskCode) → i < length xs → x ≡ get_or xs i x → x ≡ item.Task name ps d b → next ≡ codes ++ code ∷ []
     → IsCodeOfTask items (record { name = name; params = params_tree ps; body = block_tree b }) code
     → ((more : List TaskCode) → AreCodesOf items (tasks_from (items_tree (drop i xs))) more → AreCodesOf items (tasks_from (items_tree xs)) (codes ++ more))
     → (more : List TaskCode) → AreCodesOf items (tasks_from (items_tree (drop (i + 1) xs))) more → AreCodesOf items (tasks_from (items_tree xs)) (next ++ more)
 task_coded items xs i x name ps d b codes next code below read is new coded h more rest =
-    let split : tasks_from (items_tree (drop i xs)) ≡ record { name = name; params = params_tree ps; body = block_tree b } ∷ tasks_from (items_tree (drop (i + 1) xs)) =
+    let split : tasks_from (items_tree (drop i xs)) ≡ record { name = name; params = params_tree ps; body = block_tree b } ∷ tasks_from
+    (items_tree (drop (i + 1) xs)) =
     ap (λ ys. tasks_from (items_tree ys)) (dropped xs i x below read) ∙ ap (λ y. tasks_from (items_tree (y ∷ drop (i + 1) xs))) is in
     let all = h (code ∷ more) (subst (λ ts. AreCodesOf items ts (code ∷ more)) (sym split) (coded, rest)) in
     subst (λ cs. AreCodesOf items (tasks_from (items_tree xs)) cs) (sym (append_assoc codes (code ∷ []) more) ∙ ap (λ cs. cs ++ more) (sym new)) all
 
-pub other_coded : (items : List tree.Item) (xs : List Item) (i : ℕ) (x : Item) (w : List ℕ) (n : ℕ) (codes next : List TaskCode) → i < length xs → x ≡ get_or xs i x → x ≡ item.Cells w n → next ≡ codes
+pub other_coded : (items : List tree.Item) (xs : List Item) (i : ℕ) (x : Item) (w : List ℕ) (n : ℕ) (codes next : List TaskCode) → i < length xs
+    → x ≡ get_or xs i x → x ≡ item.Cells w n → next ≡ codes
     → ((more : List TaskCode) → AreCodesOf items (tasks_from (items_tree (drop i xs))) more → AreCodesOf items (tasks_from (items_tree xs)) (codes ++ more))
     → (more : List TaskCode) → AreCodesOf items (tasks_from (items_tree (drop (i + 1) xs))) more → AreCodesOf items (tasks_from (items_tree xs)) (next ++ more)
 other_coded items xs i x w n codes next below read is new h more rest =
@@ -74,6 +81,7 @@ code_covers : (P : tree.Program) (code : Compiled) (cell : ℕ) → IsCodeOf P c
 code_covers P code cell is below = subst (HasCell cell) (sym is.arrays) (arrays_cover (items_of P) 0 cell (omega arith) (omega (arith, is.cells)))
 
 -- the search for a cell that some array has does not come to its end
-pub cell_not_passed : (P : tree.Program) (code : Compiled) (cell i : ℕ) (read : List CellArray) → read ≡ code.arrays → IsCodeOf P code → cell < code.cells → length read ≤ i → (HasCell cell read → HasCell cell (drop i read)) → ⊥
+pub cell_not_passed : (P : tree.Program) (code : Compiled) (cell i : ℕ) (read : List CellArray) → read ≡ code.arrays → IsCodeOf P code → cell < code.cells
+    → length read ≤ i → (HasCell cell read → HasCell cell (drop i read)) → ⊥
 cell_not_passed P code cell i read same is below le keeps =
     subst (HasCell cell) (drop_all i read le) (keeps (subst (HasCell cell) (sym same) (code_covers P code cell is below)))

@@ -15,20 +15,20 @@ use Rattle.task_frame.specs.declared.instruction.Source.TheVariants as source
 use Rattle.task_frame.specs.declared.instruction.Instruction.{Instruction}
 use Rattle.task_frame.specs.declared.instruction.Instruction.TheVariants.{Set, Store, Branch, Spawn, Sync, Return}
 use Rattle.task_code.specs.declared.scope.Scope.{Scope}
-use Rattle.task_code.specs.declared.code.Given.{Given}
+use Rattle.task_code.specs.declared.code.ParamCode.{ParamCode}
 use Rattle.task_code.specs.declared.code.TaskCode.{TaskCode}
 use Rattle.task_frame.specs.Arrays.{find_array}
 use Rattle.task_frame.specs.Names.{Holds, HasRoom, find_name, rooms_by}
 use Rattle.task_frame.specs.Terms.{slot_by}
 
 -- where the code of a task is made: the items of the program, and the names of the task
-pub record Place : Type 0 where
+pub record Context : Type 0 where
   pub items : List tree.Item
   pub names : List Name
 
 -- that of a scope of the code
-abbrev pub place_of : Scope → Place
-place_of s = record { items = items_tree s.items.now; names = s.names.now }
+abbrev pub context_of : Scope → Context
+context_of s = record { items = items_tree s.items.now; names = s.names.now }
 
 -- a term gives the same as what it was made from, whatever the variables hold
 pub record Means (names : List Name) (gives : Variables → Slot) (t : Term) : Type 0 where
@@ -46,7 +46,7 @@ MeanAll names (_ ∷ _) [] = ⊥
 MeanAll names (e ∷ es) (t ∷ ts) = MeansExpr names e t × MeanAll names es ts
 
 -- a source gives what an init says
-abbrev pub IsSource : Place → tree.Init → Source → Type 0
+abbrev pub IsSource : Context → tree.Init → Source → Type 0
 IsSource g (tree.Value e) s = (t : Term) × MeansExpr g.names e t × (s ≡ source.Value t)
 IsSource g (tree.Index w e) s = (t : Term) × MeansExpr g.names e t × (s ≡ source.Element (find_name g.names w) (find_array (arrays_from 0 g.items) w) t)
 IsSource g (tree.GetOf w) s = (n : ℕ) × (find_name g.names w ≡ Some n) × (s ≡ source.Get n)
@@ -58,7 +58,7 @@ fill_of (tree.Plain _) = fill.One
 fill_of (tree.Array _ k) = fill.Many k
 
 -- an instruction does what a statement says that holds no others, and goes on at the next place
-abbrev pub IsDone : Place → tree.Stmt → ℕ → Instruction → Type 0
+abbrev pub IsDone : Context → tree.Stmt → ℕ → Instruction → Type 0
 IsDone g (tree.Declare w type) next i =
     (n : ℕ) × (find_name g.names w ≡ Some n) × HasRoom (rooms_by g.names) n type
     × (i ≡ Set (record { variable = n; fill = fill_of type }) (source.Value (Number (pos 0))) next)
@@ -81,7 +81,7 @@ Stands code place what = (i : Instruction) × (slice_get code place ≡ Some i) 
 
 -- the code does what a statement says where it goes on at its entry, and then goes on at the next place
 abbrev mutual
-  pub DoesStmt : Place → List Instruction → tree.Stmt → ℕ → ℕ → Type 0
+  pub DoesStmt : Context → List Instruction → tree.Stmt → ℕ → ℕ → Type 0
   DoesStmt g code (tree.If' e b t) next entry =
       (test : Term) × (then : ℕ) × (otherwise : ℕ) × MeansExpr g.names e test
       × (slice_get code entry ≡ Some (Branch test then otherwise)) × DoesBlock g code b next then
@@ -96,11 +96,11 @@ abbrev mutual
   DoesStmt g code tree.SyncAll next entry = Stands code entry (IsDone g tree.SyncAll next)
   DoesStmt g code (tree.Return' e) next entry = Stands code entry (IsDone g (tree.Return' e) next)
 
-  pub DoesBlock : Place → List Instruction → tree.Block → ℕ → ℕ → Type 0
+  pub DoesBlock : Context → List Instruction → tree.Block → ℕ → ℕ → Type 0
   DoesBlock g code tree.Done next entry = next ≡ entry
   DoesBlock g code (tree.Then s rest) next entry = (middle : ℕ) × DoesStmt g code s middle entry × DoesBlock g code rest next middle
 
-  pub DoesTail : Place → List Instruction → tree.Tail → ℕ → ℕ → Type 0
+  pub DoesTail : Context → List Instruction → tree.Tail → ℕ → ℕ → Type 0
   DoesTail g code tree.NoElse next entry = next ≡ entry
   DoesTail g code (tree.ElseOf b) next entry = DoesBlock g code b next entry
 
@@ -112,7 +112,7 @@ pub record Grows (old new : List Instruction) : Type 0 where
 -- ---- whole code
 
 -- the parameters of a task, from a number of argument values on: their variables, where their values begin, and their types
-abbrev pub AreGiven : List Name → ℕ → List tree.Param → List Given → Type 0
+abbrev pub AreGiven : List Name → ℕ → List tree.Param → List ParamCode → Type 0
 AreGiven names at [] [] = Unit {0}
 AreGiven names at [] (_ ∷ _) = ⊥
 AreGiven names at (_ ∷ _) [] = ⊥

@@ -11,7 +11,7 @@ use Rattle.task_machine.specs.Variables.{size_of}
 use Rattle.task_machine.specs.Texts.{find_task}
 use Rattle.task_frame.specs.declared.names.Name.{Name}
 use Rattle.task_frame.specs.Names.{find_name, rooms_by, HasRoom}
-use Rattle.task_code.specs.Flat.{Place}
+use Rattle.task_code.specs.Flat.{Context}
 
 -- a name has a variable, with room for what this type holds
 pub record HasVariable (names : List Name) (w : List ℕ) (type : tree.VarType) : Type 0 where
@@ -29,7 +29,7 @@ abbrev pub IsTask : List tree.Item → List ℕ → Type 0
 IsTask items w = (n : ℕ) × (find_task items w ≡ Some n)
 
 -- what a variable is set to has its names and its numbers
-abbrev pub ServesInit : Place → tree.Init → Type 0
+abbrev pub ServesInit : Context → tree.Init → Type 0
 ServesInit g (tree.GetOf w) = IsVariable g.names w
 ServesInit g (tree.CreateOf w es) = IsTask g.items w × (each_fits es ≡ true)
 ServesInit g (tree.Index w e) = expr_fits e ≡ true
@@ -37,7 +37,7 @@ ServesInit g (tree.Value e) = expr_fits e ≡ true
 
 -- what a statement asks for is there
 abbrev mutual
-  pub ServesStmt : Place → tree.Stmt → Type 0
+  pub ServesStmt : Context → tree.Stmt → Type 0
   ServesStmt g (tree.Declare w type) = HasVariable g.names w type
   ServesStmt g (tree.Define w type init) = HasVariable g.names w type × ServesInit g init
   ServesStmt g (tree.Assign w init) = IsVariable g.names w × ServesInit g init
@@ -48,11 +48,11 @@ abbrev mutual
   ServesStmt g (tree.While' e b) = (expr_fits e ≡ true) × ServesBlock g b
   ServesStmt g (tree.Return' e) = expr_fits e ≡ true
 
-  pub ServesBlock : Place → tree.Block → Type 0
+  pub ServesBlock : Context → tree.Block → Type 0
   ServesBlock g tree.Done = Unit {0}
   ServesBlock g (tree.Then s b) = ServesStmt g s × ServesBlock g b
 
-  pub ServesTail : Place → tree.Tail → Type 0
+  pub ServesTail : Context → tree.Tail → Type 0
   ServesTail g tree.NoElse = Unit {0}
   ServesTail g (tree.ElseOf b) = ServesBlock g b
 

@@ -1,5 +1,6 @@
 -- A task of flat code, and how it follows the definition.
-use Rattle.std.specs.Prelude.{◌≡◌, ℕ, ◌+◌, Bool, true, false, if◌then◌else◌, List, [], ◌∷◌, length, map, min, replicate, slice_get, slice_index, slice_set, Option, Some, None, ℤ, pos}
+use Rattle.std.specs.Prelude.{◌≡◌, ℕ, ◌+◌, Bool, true, false, if◌then◌else◌, List, [], ◌∷◌, length, map, min}
+use Rattle.std.specs.Prelude.{replicate, slice_get, slice_index, slice_set, Option, Some, None, ℤ, pos}
 use Rattle.fut_base.specs.declared.record.Value.{Value}
 use Rattle.fut_base.specs.declared.record.Value.TheVariants.{Int, Fut}
 use Rattle.fut_base.specs.declared.record.Entry.{Entry}
@@ -33,7 +34,7 @@ use Rattle.task_frame.specs.Arrays.{cell_for}
 use Rattle.task_frame.specs.Frames.{Held, slot_in_place, slot_for}
 use Rattle.task_frame.specs.Names.{Holds, rooms_by}
 use Rattle.task_frame.specs.Terms.{number_by, value_by, values_by}
-use Rattle.task_code.specs.Flat.{Place, Compiled, code_of, IsCodeOf, DoesStmt}
+use Rattle.task_code.specs.Flat.{Context, Compiled, code_of, IsCodeOf, DoesStmt}
 
 -- ---- what an instruction does
 
@@ -187,12 +188,12 @@ IsEnd None = Unit {0}
 IsEnd (Some i) = i ≡ Return (Number (pos 0))
 
 -- from a place on, the code does what is to do, and then ends
-abbrev pub Does : Place → List Instruction → ℕ → List tree.Stmt → Type 0
+abbrev pub Does : Context → List Instruction → ℕ → List tree.Stmt → Type 0
 Does g code place [] = IsEnd (slice_get code place)
 Does g code place (s ∷ rest) = (middle : ℕ) × DoesStmt g code s middle place × Does g code middle rest
 
 -- the place where the code of a task is made
-abbrev pub where_of : tree.Program → TaskCode → Place
+abbrev pub where_of : tree.Program → TaskCode → Context
 where_of P t = record { items = items_of P; names = t.names }
 
 -- a task is in this state

@@ -25,7 +25,7 @@ use task_frame::term::Term;
 
 /// A parameter: its variable, how many argument values stand before its own, and its type.
 #[derive(Clone, Copy, Debug)]
-pub struct Given {
+pub struct ParamCode {
     pub variable: u32,
     pub first: u32,
     pub kind: VarType,
@@ -35,7 +35,7 @@ pub struct Given {
 #[derive(Drop)]
 pub struct TaskCode {
     pub names: Items<Name>,
-    pub params: Items<Given>,
+    pub params: Items<ParamCode>,
     pub entry: u32,
     pub instructions: Items<Instruction>,
 }
@@ -217,7 +217,7 @@ fn code_of(
 }
 
 /// The parameters of a task by the numbers of their variables.
-fn given_of(alloc: Global, names: &[Name], params: &[Param]) -> Result<Items<Given>, NoMemory>
+fn given_of(alloc: Global, names: &[Name], params: &[Param]) -> Result<Items<ParamCode>, NoMemory>
     requires names { length names.now < 2 ^ 32 }
     requires serves { ServesParams names.now (params_tree params.now) }
     requires few { values_for (params_tree params.now) < 2 ^ 32 }
@@ -229,7 +229,7 @@ fn given_of(alloc: Global, names: &[Name], params: &[Param]) -> Result<Items<Giv
         let Some(variable) = find(names, param.name.as_slice()) else {
             unreachable!()
         };
-        given.push(Given {
+        given.push(ParamCode {
             variable,
             first,
             kind: param.kind,

@@ -1,7 +1,8 @@
 //! Statements become instructions.
 ghost use Rattle.std.specs.Prelude.{ℕ, ◌≡◌, ◌<◌, ◌^◌, ◌∷◌, ◌++◌, [], ◌+◌, length, IfOk, OnOk, map, Some, true};
 ghost use Rattle.fut_syntax.specs.Trees.{Signed};
-ghost use Rattle.fut_syntax.specs.Views.{sign_tree, expr_tree, operand_tree, primary_tree, init_tree, type_tree, args_tree, stmt_tree, block_tree, tail_tree, items_tree};
+ghost use Rattle.fut_syntax.specs.Views.{sign_tree, expr_tree, operand_tree, primary_tree, init_tree};
+ghost use Rattle.fut_syntax.specs.Views.{type_tree, args_tree, stmt_tree, block_tree, tail_tree, items_tree};
 ghost use Rattle.task_machine.specs.Variables.{slot_in, operand_in, primary_in};
 ghost use Rattle.task_machine.specs.Texts.{tasks_from, number_from};
 ghost use Rattle.task_frame.specs.Terms.{IsSigned};
@@ -11,8 +12,9 @@ ghost use Rattle.task_frame.specs.declared.instruction.Instruction.TheVariants.{
 ghost use Rattle.task_machine.specs.Variables.{size_of};
 ghost use Rattle.task_frame.specs.Names.{find_name, rooms_by, HasRoom};
 ghost use Rattle.fut_check.specs.Numbers.{expr_fits, operand_fits, primary_fits, each_fits};
-ghost use Rattle.task_code.specs.Serving.{HasVariable, IsAlone, IsTask, IsVariable, ServesInit, ServesStmt, ServesBlock, ServesTail, instructions_for, instructions_in, instructions_else};
-ghost use Rattle.task_code.specs.Flat.{place_of, fill_of, Means, MeanAll, IsSource, IsDone, DoesStmt, DoesBlock, DoesTail, Grows, Stands};
+ghost use Rattle.task_code.specs.Serving.{HasVariable, IsAlone, IsTask, IsVariable, ServesInit, ServesStmt, ServesBlock};
+ghost use Rattle.task_code.specs.Serving.{ServesTail, instructions_for, instructions_in, instructions_else};
+ghost use Rattle.task_code.specs.Flat.{context_of, fill_of, Means, MeanAll, IsSource, IsDone, DoesStmt, DoesBlock, DoesTail, Grows, Stands};
 
 use crate::scope::Scope;
 use fut_base::list::NoMemory;
@@ -121,8 +123,8 @@ pub fn task_number(items: &[Item], word: &[u8]) -> Option<u32>
 
 /// Where what an init gives comes from.
 fn source_of(alloc: Global, scope: &Scope, init: &Init) -> Result<Source, NoMemory>
-    requires { ServesInit (place_of scope.now) (init_tree init.now) }
-    ensures { IfOk result (λ s. IsSource (place_of scope.now) (init_tree init.now) s) }
+    requires { ServesInit (context_of scope.now) (init_tree init.now) }
+    ensures { IfOk result (λ s. IsSource (context_of scope.now) (init_tree init.now) s) }
 {
     match init {
         Init::Value(expr) => Ok(Source::Value(term_of(alloc, scope, expr)?)),
@@ -198,9 +200,9 @@ fn instruction_of(
     stmt: &Stmt,
     next: u32,
 ) -> Result<Instruction, NoMemory>
-    requires serves { ServesStmt (place_of scope.now) (stmt_tree stmt.now) }
+    requires serves { ServesStmt (context_of scope.now) (stmt_tree stmt.now) }
     requires alone { IsAlone (stmt_tree stmt.now) }
-    ensures { IfOk result (λ i. IsDone (place_of scope.now) (stmt_tree stmt.now) next i) }
+    ensures { IfOk result (λ i. IsDone (context_of scope.now) (stmt_tree stmt.now) next i) }
 {
     match stmt {
         Stmt::Declare(word, kind) => Ok(Instruction::Set {
@@ -333,10 +335,10 @@ pub fn add_block(
     next: u32,
     code: &mut Vec<Instruction>,
 ) -> Result<u32, NoMemory>
-    requires serves { ServesBlock (place_of scope.now) (block_tree stmts.now) }
+    requires serves { ServesBlock (context_of scope.now) (block_tree stmts.now) }
     requires few { length code.old.items + instructions_in (block_tree stmts.now) < 2 ^ 32 }
     ensures does { IfOk result (λ entry. Grows code.old.items code.new.items
-        × DoesBlock (place_of scope.now) code.new.items (block_tree stmts.now) next entry) }
+        × DoesBlock (context_of scope.now) code.new.items (block_tree stmts.now) next entry) }
     ensures count { OnOk result (length code.new.items ≡ length code.old.items + instructions_in (block_tree stmts.now)) }
 {
     let mut entry = next;
@@ -355,9 +357,9 @@ fn add_stmt(
     next: u32,
     code: &mut Vec<Instruction>,
 ) -> Result<u32, NoMemory>
-    requires serves { ServesStmt (place_of scope.now) (stmt_tree stmt.now) }
+    requires serves { ServesStmt (context_of scope.now) (stmt_tree stmt.now) }
     requires few { length code.old.items + instructions_for (stmt_tree stmt.now) < 2 ^ 32 }
-    ensures does { IfOk result (λ entry. Grows code.old.items code.new.items × DoesStmt (place_of scope.now) code.new.items (stmt_tree stmt.now) next entry) }
+    ensures does { IfOk result (λ entry. Grows code.old.items code.new.items × DoesStmt (context_of scope.now) code.new.items (stmt_tree stmt.now) next entry) }
     ensures count { OnOk result (length code.new.items ≡ length code.old.items + instructions_for (stmt_tree stmt.now)) }
 {
     match stmt {
@@ -406,11 +408,11 @@ fn add_one(
     next: u32,
     code: &mut Vec<Instruction>,
 ) -> Result<u32, NoMemory>
-    requires serves { ServesStmt (place_of scope.now) (stmt_tree stmt.now) }
+    requires serves { ServesStmt (context_of scope.now) (stmt_tree stmt.now) }
     requires alone { IsAlone (stmt_tree stmt.now) }
     requires few { length code.old.items < 2 ^ 32 }
     ensures does { IfOk result (λ entry. Grows code.old.items code.new.items
-        × Stands code.new.items entry (IsDone (place_of scope.now) (stmt_tree stmt.now) next)) }
+        × Stands code.new.items entry (IsDone (context_of scope.now) (stmt_tree stmt.now) next)) }
     ensures count { OnOk result (length code.new.items ≡ length code.old.items + 1) }
 {
     let instruction = instruction_of(alloc, scope, stmt, next)?;
@@ -426,9 +428,9 @@ fn add_tail(
     next: u32,
     code: &mut Vec<Instruction>,
 ) -> Result<u32, NoMemory>
-    requires serves { ServesTail (place_of scope.now) (tail_tree tail.now) }
+    requires serves { ServesTail (context_of scope.now) (tail_tree tail.now) }
     requires few { length code.old.items + instructions_else (tail_tree tail.now) < 2 ^ 32 }
-    ensures does { IfOk result (λ entry. Grows code.old.items code.new.items × DoesTail (place_of scope.now) code.new.items (tail_tree tail.now) next entry) }
+    ensures does { IfOk result (λ entry. Grows code.old.items code.new.items × DoesTail (context_of scope.now) code.new.items (tail_tree tail.now) next entry) }
     ensures count { OnOk result (length code.new.items ≡ length code.old.items + instructions_else (tail_tree tail.now)) }
 {
     match tail {

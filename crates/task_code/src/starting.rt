@@ -8,7 +8,7 @@ ghost use Rattle.task_frame.specs.Names.{Holds, rooms_by};
 ghost use Rattle.task_code.specs.Flat.{AreGiven, code_of};
 ghost use Rattle.task_code.specs.Starting.{taken_in};
 
-use crate::code::{Code, Given, TaskCode};
+use crate::code::{Code, ParamCode, TaskCode};
 use fut_base::list::NoMemory;
 use fut_base::record::Value;
 use fut_syntax::tree::VarType;
@@ -43,7 +43,7 @@ pub fn frame_at(alloc: Global, code: &Code, which: u32, args: &[Value]) -> Resul
 }
 
 /// Sets a parameter.
-fn give(frame: &mut Frame, given: Given, args: &[Value])
+fn give(frame: &mut Frame, given: ParamCode, args: &[Value])
     ensures slots { frame.new.slots ≡ slice_set frame.old.slots given.variable
         (taken_in (slice_index frame.old.rooms given.variable) (type_tree given.kind) (drop given.first args.now)) }
     ensures rooms { frame.new.rooms ≡ frame.old.rooms }

@@ -7,7 +7,8 @@ ghost use Rattle.task_machine.specs.State.{NoWish, element_of, end_of};
 ghost use Rattle.task_frame.specs.Arrays.{cell_for};
 ghost use Rattle.task_frame.specs.Frames.{slot_for, zero_value};
 ghost use Rattle.task_frame.specs.Terms.{values_by, slot_by};
-ghost use Rattle.task_code.specs.Tasks.{aimed, local_source, moves, wished, wished_source, passed_by, passed_by_source, received, received_by, slots_after, place_after, IsTold, store_slots};
+ghost use Rattle.task_code.specs.Tasks.{aimed, local_source, moves, wished, wished_source, passed_by, passed_by_source};
+ghost use Rattle.task_code.specs.Tasks.{received, received_by, slots_after, place_after, IsTold, store_slots};
 
 use crate::task::Wish;
 use fut_base::list::NoMemory;

@@ -9,7 +9,8 @@ ghost use Rattle.task_machine.specs.State.{TaskState, ToSpawn, ToCreate, start_s
 ghost use Rattle.task_machine.specs.Runs.{StandsAt};
 ghost use Rattle.task_types.specs.Typed.{ArgsFit, ActionFits, any_future};
 ghost use Rattle.task_code.specs.Flat.{IsCodeOf, code_of};
-ghost use Rattle.task_code.specs.Tasks.{IsTaskOf, IsSomeTask, IsStill, StopsAt, Wishes, Turned, Told, spot_after, slots_after, instruction_of, open_after, ended_after};
+ghost use Rattle.task_code.specs.Tasks.{IsTaskOf, IsSomeTask, IsStill, StopsAt, Wishes, Turned, Told};
+ghost use Rattle.task_code.specs.Tasks.{spot_after, slots_after, instruction_of, open_after, ended_after};
 
 use crate::code::Code;
 use crate::starting::frame_at;

@@ -16,6 +16,7 @@ pub inverted_number : (slots : List Slot) (t : Term) → number_by slots (Invert
 unfolding Rattle.task_frame.specs.declared.term.Term.TheBlock.hidden-the_row-Term-0 denote.Hole.Carrier.hidden
 inverted_number slots t = refl
 
-pub pair_number : (slots : List Slot) (a : Term) (op : Operator) (b : Term) → number_by slots (Pair a op b) ≡ combine (op_tree op) (number_by slots a) (number_by slots b)
+pub pair_number : (slots : List Slot) (a : Term) (op : Operator) (b : Term)
+    → number_by slots (Pair a op b) ≡ combine (op_tree op) (number_by slots a) (number_by slots b)
 unfolding Rattle.task_frame.specs.declared.term.Term.TheBlock.hidden-the_row-Term-0 denote.Hole.Carrier.hidden
 pair_number slots a op b = refl

@@ -1,5 +1,6 @@
 -- Names are gathered: what had a variable with room still has one.
-use Rattle.std.proofs.Common.{◌≡◌, ℕ, zero, suc, ◌+◌, ◌<◌, ◌≤◌, true, false, List, [], ◌∷◌, ◌++◌, length, take, get_or, refl, sym, ap, ◌∙◌, subst, arith, length-append, add-one}
+use Rattle.std.proofs.Common.{◌≡◌, ℕ, zero, suc, ◌+◌, ◌<◌, ◌≤◌, true, false, List, [], ◌∷◌, ◌++◌, length}
+use Rattle.std.proofs.Common.{take, get_or, refl, sym, ap, ◌∙◌, subst, arith, length-append, add-one}
 use Rattle.std.specs.Prelude.{Some, None, max, slice_get, slice_set, slice_index, if◌then◌else◌, bytes_eq, Result, Ok, Err, OnOk}
 use Rattle.std.proofs.lemmas.List.{length-set}
 use Rattle.std.proofs.lemmas.Slice.Eq.{bytes_eq-Decides}
@@ -30,14 +31,16 @@ found_below k (d ∷ names) w n h =
 
 -- ---- a name with more room
 
-found_still : (k : ℕ) (old : List Name) (place : ℕ) (d e : Name) → slice_get old place ≡ Some d → e.word ≡ d.word → (w : List ℕ) → find_from k (slice_set old place e) w ≡ find_from k old w
+found_still : (k : ℕ) (old : List Name) (place : ℕ) (d e : Name) → slice_get old place ≡ Some d → e.word ≡ d.word → (w : List ℕ)
+    → find_from k (slice_set old place e) w ≡ find_from k old w
 found_still k [] place d e h same w = refl
 found_still k (x ∷ old) zero d e h same w =
     let is : x ≡ d = same_Some x d h in
     ap (λ v. if bytes_eq v w then Some k else find_from (k + 1) old w) (same ∙ ap (λ (q : Name). q.word) (sym is))
 found_still k (x ∷ old) (suc place) d e h same w = ap (λ o. if bytes_eq x.word w then Some k else o) (found_still (k + 1) old place d e h same w)
 
-wider : (old : List Name) (place : ℕ) (d e : Name) → slice_get old place ≡ Some d → d.room ≤ e.room → (n : ℕ) → slice_index (rooms_by old) n ≤ slice_index (rooms_by (slice_set old place e)) n
+wider : (old : List Name) (place : ℕ) (d e : Name) → slice_get old place ≡ Some d → d.room ≤ e.room → (n : ℕ)
+    → slice_index (rooms_by old) n ≤ slice_index (rooms_by (slice_set old place e)) n
 wider [] place d e h le n = omega arith
 wider (x ∷ old) zero d e h le zero = let is : x ≡ d = same_Some x d h in let room = ap (λ (q : Name). q.room) is in omega (arith, room, le)
 wider (x ∷ old) zero d e h le (suc n) = omega arith
@@ -59,7 +62,9 @@ widened old new place room x =
       keeps = λ w most h. record {
         number = h.number;
         found = ap (λ l. find_name l w) x.is ∙ (found_still 0 old place x.name e x.present refl w ∙ h.found);
-        wide = (let a = wider old place x.name e x.present (omega arith) h.number in let b = ap (λ l. slice_index (rooms_by l) h.number) x.is in let c = h.wide in omega (arith, a, b, c));
+        wide =
+            (let a = wider old place x.name e x.present (omega arith) h.number in let b = ap (λ l. slice_index (rooms_by l) h.number) x.is in let c =
+            h.wide in omega (arith, a, b, c));
       };
       few = (let a = ap length x.is ∙ length-set old place e in omega (arith, a));
     }
@@ -78,16 +83,21 @@ has_widened old new w place room found x =
 found_more : (k : ℕ) (old : List Name) (d : Name) (w : List ℕ) (n : ℕ) → find_from k old w ≡ Some n → find_from k (old ++ d ∷ []) w ≡ Some n
 found_more k [] d w n h = absurd (let e : None ≡ Some n = h in cc)
 found_more k (x ∷ old) d w n h =
-    by_bool (λ b. (if b then Some k else find_from (k + 1) old w) ≡ Some n → (if b then Some k else find_from (k + 1) (old ++ d ∷ []) w) ≡ Some n) (bytes_eq x.word w)
+    by_bool (λ b. (if b then Some k else find_from (k + 1) old w) ≡ Some n → (if b then Some k else find_from (k + 1) (old ++ d ∷ []) w) ≡ Some n)
+    (bytes_eq x.word w)
     (λ t e. e) (λ f e. found_more (k + 1) old d w n e) h
 
-found_last : (k : ℕ) (old : List Name) (d : Name) (w : List ℕ) → bytes_eq d.word w ≡ true → find_from k old w ≡ None → find_from k (old ++ d ∷ []) w ≡ Some (k + length old)
+found_last : (k : ℕ) (old : List Name) (d : Name) (w : List ℕ) → bytes_eq d.word w ≡ true → find_from k old w ≡ None
+    → find_from k (old ++ d ∷ []) w ≡ Some (k + length old)
 found_last k [] d w is h =
     let n : k ≡ k + 0 = omega arith in
-    by_bool (λ b. b ≡ true → (if b then Some k else None) ≡ Some (k + 0)) (bytes_eq d.word w) (λ t e. ap (λ m. Some m) n) (λ f e. absurd (let q : false ≡ true = e in cc)) is
+    by_bool (λ b. b ≡ true → (if b then Some k else None) ≡ Some (k + 0)) (bytes_eq d.word w) (λ t e. ap (λ m. Some m) n)
+    (λ f e. absurd (let q : false ≡ true = e in cc)) is
 found_last k (x ∷ old) d w is h =
     let n : (k + 1) + length old ≡ k + length (x ∷ old) = omega arith in
-    by_bool (λ b. (if b then Some k else find_from (k + 1) old w) ≡ None → (if b then Some k else find_from (k + 1) (old ++ d ∷ []) w) ≡ Some (k + length (x ∷ old))) (bytes_eq x.word w)
+    by_bool
+    (λ b. (if b then Some k else find_from (k + 1) old w) ≡ None → (if b then Some k else find_from (k + 1) (old ++ d ∷ []) w)
+    ≡ Some (k + length (x ∷ old))) (bytes_eq x.word w)
     (λ t e. absurd (let q : Some k ≡ None = e in cc)) (λ f e. found_last (k + 1) old d w is e ∙ ap (λ m. Some m) n) h
 
 room_more : (old : List Name) (d : Name) (n : ℕ) → slice_index (rooms_by old) n ≤ slice_index (rooms_by (old ++ d ∷ [])) n
@@ -161,7 +171,8 @@ module _ (old new : List Name) (most : ℕ) (x : Widens old new most) where
 
 -- ---- one statement, or one parameter, more
 
-has_and : (names : List Name) (xs : List Stmt) (s : Stmt) → HasBlock names (block_tree xs) → HasStmt names (stmt_tree s) → HasBlock names (block_tree (xs ++ s ∷ []))
+has_and : (names : List Name) (xs : List Stmt) (s : Stmt) → HasBlock names (block_tree xs) → HasStmt names (stmt_tree s)
+    → HasBlock names (block_tree (xs ++ s ∷ []))
 has_and names [] s h k = (k, tt)
 has_and names (x ∷ xs) s h k = (h.0, has_and names xs s h.1 k)
 
@@ -169,7 +180,8 @@ words_and : (xs : List Stmt) (s : Stmt) → words_of_block (block_tree (xs ++ s 
 words_and [] s = omega arith
 words_and (x ∷ xs) s = let r = words_and xs s in omega (arith, r)
 
-params_and : (names : List Name) (ps : List Param) (p : Param) → HasParams names (params_tree ps) → Has names p.name (room_of (param_tree p).type) → HasParams names (params_tree (ps ++ p ∷ []))
+params_and : (names : List Name) (ps : List Param) (p : Param) → HasParams names (params_tree ps) → Has names p.name (room_of (param_tree p).type)
+    → HasParams names (params_tree (ps ++ p ∷ []))
 params_and names [] p h k = (k, tt)
 params_and names (q ∷ ps) p h k = (h.0, params_and names ps p h.1 k)
 
@@ -181,7 +193,8 @@ pub record Gathered (first names : List Name) (b : tree.Block) : Type 0 where
   pub has : HasBlock names b
   pub more : Widens first names (words_of_block b)
 
-pub block_step : (first old new : List Name) (body : List Stmt) (i : ℕ) (s : Stmt) → i < length body → s ≡ get_or body i s → Gathered first old (block_tree (take i body))
+pub block_step : (first old new : List Name) (body : List Stmt) (i : ℕ) (s : Stmt) → i < length body → s ≡ get_or body i s
+    → Gathered first old (block_tree (take i body))
     → HasStmt new (stmt_tree s) → Widens old new (words_of_stmt (stmt_tree s)) → Gathered first new (block_tree (take (i + 1) body))
 block_step first old new body i s lt is h has more =
     let one : block_tree (take (i + 1) body) ≡ block_tree (take i body ++ s ∷ []) = ap block_tree (taken_more body i s lt is) in

@@ -5,7 +5,7 @@ use Rattle.fut_base.specs.declared.record.Value.TheVariants.{Int}
 use Rattle.task_machine.specs.Variables.{Slot, One, Many}
 use Rattle.task_frame.specs.declared.frame.Shape.{Shape}
 use Rattle.task_frame.specs.declared.frame.Shape.TheVariants as shape
-use Rattle.task_frame.specs.declared.frame.Place.{Place}
+use Rattle.task_frame.specs.declared.frame.Extent.{Extent}
 
 -- the value of what was never set
 abbrev pub zero_value : Value
@@ -52,16 +52,16 @@ shaped values first shape.One = One (slice_index_or values first zero_value)
 shaped values first (shape.Many n) = Many (take n (drop first values))
 
 -- the slot of a parameter, filled with its values
-abbrev pub slot_of : List Value → Place → Slot
+abbrev pub slot_of : List Value → Extent → Slot
 slot_of values p = shaped values p.first p.shape
 
 -- the slots of all parameters
-abbrev pub slots_of : List Value → List Place → List Slot
+abbrev pub slots_of : List Value → List Extent → List Slot
 slots_of values places = map (slot_of values) places
 
 -- how much room each place has
-abbrev pub rooms_of : List Place → List ℕ
-rooms_of places = map (λ (p : Place). p.room) places
+abbrev pub rooms_of : List Extent → List ℕ
+rooms_of places = map (λ (p : Extent). p.room) places
 
 -- how many values a slot of this shape has
 abbrev pub shape_size : Shape → ℕ
@@ -69,6 +69,6 @@ shape_size shape.One = 1
 shape_size (shape.Many n) = n
 
 -- the places lie one behind the other, from the first number to the end, and each has room for what it holds
-abbrev pub AreLaid : ℕ → List Place → ℕ → Type 0
+abbrev pub AreLaid : ℕ → List Extent → ℕ → Type 0
 AreLaid n [] end = n ≡ end
 AreLaid n (p ∷ ps) end = (p.first ≡ n) × (1 ≤ p.room) × (shape_size p.shape ≤ p.room) × AreLaid (n + p.room) ps end

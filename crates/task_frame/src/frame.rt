@@ -1,5 +1,6 @@
 //! The variables of a running task, by number: one flat list of values.
-ghost use Rattle.std.specs.Prelude.{◌^◌, ◌≡◌, ◌≤◌, ◌<◌, [], ◌∷◌, ◌++◌, length, map, max, min, replicate, slice_get, slice_index, slice_index_or, ℕ, List, slice_set, IfOk, OnOk, MatchOption, None, Some, take, drop, ◌+◌};
+ghost use Rattle.std.specs.Prelude.{◌^◌, ◌≡◌, ◌≤◌, ◌<◌, [], ◌∷◌, ◌++◌, length, map, max, min, replicate, slice_get, slice_index};
+ghost use Rattle.std.specs.Prelude.{slice_index_or, ℕ, List, slice_set, IfOk, OnOk, MatchOption, None, Some, take, drop, ◌+◌};
 ghost use Rattle.fut_base.specs.declared.record.Value.TheVariants.{Int};
 ghost use Rattle.fut_base.specs.declared.record.Value.{Value as Carried};
 ghost use Rattle.task_machine.specs.Variables.{One, Many, Slot, value_of, refilled, values_of};
@@ -23,7 +24,7 @@ pub enum Shape {
 
 /// Where a variable's values begin, for how many there is room, and what it holds now.
 #[derive(Clone, Copy, Debug)]
-pub struct Place {
+pub struct Extent {
     first: usize,
     room: usize,
     shape: Shape,
@@ -33,7 +34,7 @@ pub struct Place {
 #[derive(Drop)]
 pub struct Frame {
     values: Vec<Value>,
-    places: Vec<Place>,
+    places: Vec<Extent>,
 }
 
 impl Model for Frame {
@@ -59,7 +60,7 @@ impl Frame {
             let first = values.len();
             let room = usize::max(1, name.room as usize);
             push_zeros(&mut values, room)?;
-            places.push(Place {
+            places.push(Extent {
                 first,
                 room,
                 shape: Shape::One,
@@ -101,7 +102,7 @@ impl Frame {
         ensures rooms { self.new.rooms ≡ self.old.rooms }
     {
         if let Some(place) = place_of(&self.places, variable) {
-            self.places[variable as usize] = Place {
+            self.places[variable as usize] = Extent {
                 first: place.first,
                 room: place.room,
                 shape: Shape::One,
@@ -143,7 +144,7 @@ impl Frame {
         ensures rooms { self.new.rooms ≡ self.old.rooms }
     {
         if let Some(place) = place_of(&self.places, variable) {
-            self.places[variable as usize] = Place {
+            self.places[variable as usize] = Extent {
                 first: place.first,
                 room: place.room,
                 shape: Shape::Many(usize::min(count, place.room)),
@@ -207,7 +208,7 @@ impl Frame {
 }
 
 /// Where the values of a variable lie.
-fn place_of(places: &[Place], variable: u32) -> Option<Place>
+fn place_of(places: &[Extent], variable: u32) -> Option<Extent>
     ensures { result ≡ slice_get places.now variable }
 {
     places.get(variable as usize).copied()

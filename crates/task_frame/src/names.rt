@@ -2,7 +2,8 @@
 ghost use Rattle.std.specs.Prelude.{ℕ, ◌≡◌, ◌+◌, ◌^◌, ◌<◌, ◌≤◌, length, IfOk, OnOk};
 ghost use Rattle.fut_syntax.specs.Views.{type_tree, init_tree, stmt_tree, block_tree, tail_tree, params_tree};
 ghost use Rattle.task_frame.specs.Names.{find_name};
-ghost use Rattle.task_frame.specs.Gathered.{room_of, Has, HasInit, HasStmt, HasBlock, HasTail, HasParams, HasRoomAt, Widens, words_of_init, words_of_stmt, words_of_block, words_of_tail};
+ghost use Rattle.task_frame.specs.Gathered.{room_of, Has, HasInit, HasStmt, HasBlock, HasTail, HasParams, HasRoomAt};
+ghost use Rattle.task_frame.specs.Gathered.{Widens, words_of_init, words_of_stmt, words_of_block, words_of_tail};
 
 use fut_base::list::NoMemory;
 use fut_syntax::tree::{Init, Param, Stmt, Tail, VarType};

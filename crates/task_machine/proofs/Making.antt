@@ -31,7 +31,8 @@ more : (n k s z t : ℕ) (r : Running) → n ≤ k → s ≤ z → Numbered n s 
 more n k s z t r le le' x = record { strand = omega (arith, x.strand); later = λ c a. (let l = x.later c a in (l.0, omega (arith, l.1))) }
 
 begun : (P : tree.Program) (t : ℕ) (r : Running) → slice_get (opening P).tasks t ≡ Some r → Numbered 1 1 t r
-begun P zero r h = subst (λ (q : Running). Numbered 1 1 zero q) (same_Some (begins P (main_of P) [] 0 0) r h) (record { strand = omega arith; later = λ c a. absurd a })
+begun P zero r h = subst (λ (q : Running). Numbered 1 1 zero q) (same_Some (begins P (main_of P) [] 0 0) r h)
+    (record { strand = omega arith; later = λ c a. absurd a })
 begun P (suc t) r h = cc
 
 -- an action that makes no strand and leaves the block
@@ -43,14 +44,16 @@ same_place n s t r q strand block x =
     }
 
 -- a child joins the block
-joined : (n s t child kid cont : ℕ) (block : List ℕ) → t < n → (child ≡ n) × (kid ≡ s) × (cont ≡ s + 1) → ((c : ℕ) → Among c block → (t < c) × (c < n)) → (c : ℕ) → Among c (block ++ child ∷ []) → (t < c) × (c < n + 1)
+joined : (n s t child kid cont : ℕ) (block : List ℕ) → t < n → (child ≡ n) × (kid ≡ s) × (cont ≡ s + 1) → ((c : ℕ) → Among c block → (t < c) × (c < n))
+    → (c : ℕ) → Among c (block ++ child ∷ []) → (t < c) × (c < n + 1)
 joined n s t child kid cont block below next old c a =
     elim (among_split c block (child ∷ []) a) [
       | inl b ↦ (let l = old c b in (l.0, omega (arith, l.1)))
       | inr b ↦ elim b [ inl same ↦ (omega (arith, next.0, same), omega (arith, next.0, same)) | inr none ↦ absurd none ]
     ]
 
-acted_numbered : (m : Machine) (r : Running) (stop : TaskState) (a : Action) (t : ℕ) → Permits m r a → t < length m.tasks → Numbered (length m.tasks) m.strands t r → Numbered (length m.tasks + tasks_by a) (m.strands + strands_by a) t (acted r stop a)
+acted_numbered : (m : Machine) (r : Running) (stop : TaskState) (a : Action) (t : ℕ) → Permits m r a → t < length m.tasks
+    → Numbered (length m.tasks) m.strands t r → Numbered (length m.tasks + tasks_by a) (m.strands + strands_by a) t (acted r stop a)
 acted_numbered m r stop (Reads cell value) t may below x = same_place _ _ t r _ refl refl x
 acted_numbered m r stop (Writes cell value) t may below x = same_place _ _ t r _ refl refl x
 acted_numbered m r stop (Spawns code child kid cont args) t may below x =
@@ -62,7 +65,8 @@ acted_numbered m r stop (Gets future value strand) t may below x =
     record { strand = omega (arith, may.0); later = λ c a. (let l = x.later c a in (l.0, omega (arith, l.1))) }
 acted_numbered m r stop (Ends value) t may below x = same_place _ _ t r _ refl refl x
 
-new_numbered : (P : tree.Program) (n s t code kid future : ℕ) (args : List Value) (k : ℕ) (q : Running) → kid < s → slice_get (begins P code args kid future ∷ []) k ≡ Some q → Numbered n s t q
+new_numbered : (P : tree.Program) (n s t code kid future : ℕ) (args : List Value) (k : ℕ) (q : Running) → kid < s
+    → slice_get (begins P code args kid future ∷ []) k ≡ Some q → Numbered n s t q
 new_numbered P n s t code kid future args zero q below h =
     subst (λ (x : Running). Numbered n s t x) (same_Some (begins P code args kid future) q h) (record { strand = below; later = λ c a. absurd a })
 new_numbered P n s t code kid future args (suc k) q below h = cc
@@ -70,7 +74,8 @@ new_numbered P n s t code kid future args (suc k) q below h = cc
 none_numbered : (n s t k : ℕ) (q : Running) → slice_get [] k ≡ Some q → Numbered n s t q
 none_numbered n s t k q h = cc
 
-child_numbered : (P : tree.Program) (m : Machine) (r : Running) (a : Action) (n t k : ℕ) (q : Running) → Permits m r a → slice_get (child_of P r a) k ≡ Some q → Numbered n (m.strands + strands_by a) t q
+child_numbered : (P : tree.Program) (m : Machine) (r : Running) (a : Action) (n t k : ℕ) (q : Running) → Permits m r a → slice_get (child_of P r a) k ≡ Some q
+    → Numbered n (m.strands + strands_by a) t q
 child_numbered P m r (Reads cell value) n t k q may h = none_numbered _ _ t k q h
 child_numbered P m r (Writes cell value) n t k q may h = none_numbered _ _ t k q h
 child_numbered P m r (Spawns code child kid cont args) n t k q may h = new_numbered P _ _ t code kid r.future args k q (omega (arith, may.1)) h
@@ -88,17 +93,20 @@ child_count P r (Syncs strand) = refl
 child_count P r (Gets future value strand) = refl
 child_count P r (Ends value) = refl
 
-pub task_count : (P : tree.Program) (m : Machine) (e : Event) (r : Running) (stop : TaskState) → length (after P m e r stop).tasks ≡ length m.tasks + tasks_by e.action
+pub task_count : (P : tree.Program) (m : Machine) (e : Event) (r : Running) (stop : TaskState)
+    → length (after P m e r stop).tasks ≡ length m.tasks + tasks_by e.action
 task_count P m e r stop =
     let both = length-append (slice_set m.tasks e.task (acted r stop e.action)) (child_of P r e.action) in
     let set = length-set m.tasks e.task (acted r stop e.action) in
     let new = child_count P r e.action in
     omega arith
 
-step_numbered : (P : tree.Program) (m : Machine) (e : Event) (r : Running) (stop : TaskState) → slice_get m.tasks e.task ≡ Some r → Permits m r e.action → AllNumbered m → AllNumbered (after P m e r stop)
+step_numbered : (P : tree.Program) (m : Machine) (e : Event) (r : Running) (stop : TaskState) → slice_get m.tasks e.task ≡ Some r → Permits m r e.action
+    → AllNumbered m → AllNumbered (after P m e r stop)
 step_numbered P m e r stop present may x t q h =
     subst (λ n. Numbered n (m.strands + strands_by e.action) t q) (sym (task_count P m e r stop))
-    (elim (get_set_append m.tasks (child_of P r e.action) e.task (acted r stop e.action) t q h) as (λ _. Numbered (length m.tasks + tasks_by e.action) (m.strands + strands_by e.action) t q) [
+    (elim (get_set_append m.tasks (child_of P r e.action) e.task (acted r stop e.action) t q h) as
+    (λ _. Numbered (length m.tasks + tasks_by e.action) (m.strands + strands_by e.action) t q) [
       | inl own ↦ (
           subst (λ (y : Running). Numbered (length m.tasks + tasks_by e.action) (m.strands + strands_by e.action) t y) own.1
           (subst (λ i. Numbered (length m.tasks + tasks_by e.action) (m.strands + strands_by e.action) i (acted r stop e.action)) (sym own.0)
@@ -114,25 +122,34 @@ leads_numbered P m [] n x all = subst AllNumbered x all
 leads_numbered P m (e ∷ h) n (next, step, rest) all =
     leads_numbered P next h n rest (subst AllNumbered (sym step.gives) (step_numbered P m e step.task step.stop step.present step.permits all))
 
-pub children_come_later : (P : tree.Program) (h : List Event) (m : Machine) (t : ℕ) (r : Running) → Leads P (opening P) h m → slice_get m.tasks t ≡ Some r → (c : ℕ) → Among c r.block → (t < c) × (c < length m.tasks)
+pub children_come_later : (P : tree.Program) (h : List Event) (m : Machine) (t : ℕ) (r : Running) → Leads P (opening P) h m → slice_get m.tasks t ≡ Some r
+    → (c : ℕ) → Among c r.block → (t < c) × (c < length m.tasks)
 children_come_later P h m t r x present = (leads_numbered P (opening P) h m x (begun P) t r present).later
 
-pub strands_were_made : (P : tree.Program) (h : List Event) (m : Machine) (t : ℕ) (r : Running) → Leads P (opening P) h m → slice_get m.tasks t ≡ Some r → r.strand < m.strands
+pub strands_were_made : (P : tree.Program) (h : List Event) (m : Machine) (t : ℕ) (r : Running) → Leads P (opening P) h m → slice_get m.tasks t ≡ Some r
+    → r.strand < m.strands
 strands_were_made P h m t r x present = (leads_numbered P (opening P) h m x (begun P) t r present).strand
 
-pub acting_task : (P : tree.Program) (m : Machine) (e : Event) (n : Machine) → (x : IsStep P m e n) → slice_get n.tasks e.task ≡ Some (acted x.task x.stop e.action)
+pub acting_task : (P : tree.Program) (m : Machine) (e : Event) (n : Machine) → (x : IsStep P m e n)
+    → slice_get n.tasks e.task ≡ Some (acted x.task x.stop e.action)
 acting_task P m e n x =
-    subst (λ (q : Machine). slice_get q.tasks e.task ≡ Some (acted x.task x.stop e.action)) (sym x.gives) (get_set_same m.tasks (child_of P x.task e.action) e.task (acted x.task x.stop e.action) x.task x.present)
+    subst (λ (q : Machine). slice_get q.tasks e.task ≡ Some (acted x.task x.stop e.action)) (sym x.gives)
+    (get_set_same m.tasks (child_of P x.task e.action) e.task (acted x.task x.stop e.action) x.task x.present)
 
-pub others_stay : (P : tree.Program) (m : Machine) (e : Event) (n : Machine) (t : ℕ) (r : Running) → IsStep P m e n → (t ≡ e.task → ⊥) → slice_get m.tasks t ≡ Some r → slice_get n.tasks t ≡ Some r
+pub others_stay : (P : tree.Program) (m : Machine) (e : Event) (n : Machine) (t : ℕ) (r : Running) → IsStep P m e n → (t ≡ e.task → ⊥)
+    → slice_get m.tasks t ≡ Some r → slice_get n.tasks t ≡ Some r
 others_stay P m e n t r x other present =
-    subst (λ (q : Machine). slice_get q.tasks t ≡ Some r) (sym x.gives) (get_set_other m.tasks (child_of P x.task e.action) e.task (acted x.task x.stop e.action) t r other present)
+    subst (λ (q : Machine). slice_get q.tasks t ≡ Some r) (sym x.gives)
+    (get_set_other m.tasks (child_of P x.task e.action) e.task (acted x.task x.stop e.action) t r other present)
 
-pub child_comes : (P : tree.Program) (m : Machine) (e : Event) (n : Machine) (r : Running) → (x : IsStep P m e n) → child_of P x.task e.action ≡ r ∷ [] → slice_get n.tasks (length m.tasks) ≡ Some r
+pub child_comes : (P : tree.Program) (m : Machine) (e : Event) (n : Machine) (r : Running) → (x : IsStep P m e n) → child_of P x.task e.action ≡ r ∷ []
+    → slice_get n.tasks (length m.tasks) ≡ Some r
 child_comes P m e n r x made =
     let whole : n ≡ after P m e x.task x.stop = x.gives in
     let same = length-set m.tasks e.task (acted x.task x.stop e.action) in
     subst (λ (q : Machine). slice_get q.tasks (length m.tasks) ≡ Some r) (sym whole)
     (subst (λ k. slice_get (slice_set m.tasks e.task (acted x.task x.stop e.action) ++ child_of P x.task e.action) k ≡ Some r) same
-    (subst (λ (ys : List Running). slice_get (slice_set m.tasks e.task (acted x.task x.stop e.action) ++ ys) (length (slice_set m.tasks e.task (acted x.task x.stop e.action))) ≡ Some r) (sym made)
+    (subst
+    (λ (ys : List Running). slice_get (slice_set m.tasks e.task (acted x.task x.stop e.action) ++ ys)
+    (length (slice_set m.tasks e.task (acted x.task x.stop e.action))) ≡ Some r) (sym made)
     (get_new (slice_set m.tasks e.task (acted x.task x.stop e.action)) [] r)))

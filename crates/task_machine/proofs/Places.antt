@@ -15,7 +15,8 @@ get_append (y ∷ xs) ys zero r h = inl h
 get_append (y ∷ xs) ys (suc t) r h = elim (get_append xs ys t r h) [ inl a ↦ inl a | inr b ↦ inr (further y xs ys t r b) ]
 
 -- an item is the one that was set, an old one, or one that was added
-pub get_set_append : {X : Type 0} (xs ys : List X) (i : ℕ) (x : X) (t : ℕ) (r : X) → slice_get (slice_set xs i x ++ ys) t ≡ Some r → ((t ≡ i) × (x ≡ r)) ⊎ ((slice_get xs t ≡ Some r) ⊎ Behind xs ys t r)
+pub get_set_append : {X : Type 0} (xs ys : List X) (i : ℕ) (x : X) (t : ℕ) (r : X) → slice_get (slice_set xs i x ++ ys) t ≡ Some r
+    → ((t ≡ i) × (x ≡ r)) ⊎ ((slice_get xs t ≡ Some r) ⊎ Behind xs ys t r)
 get_set_append [] ys i x t r h = inr (inr (t, omega arith, h))
 get_set_append (y ∷ xs) ys zero x zero r h = inl (refl, cc)
 get_set_append (y ∷ xs) ys zero x (suc t) r h = elim (get_append xs ys t r h) [ inl a ↦ inr (inl a) | inr b ↦ inr (inr (further y xs ys t r b)) ]
@@ -41,7 +42,8 @@ get_old [] ys t r h = cc
 get_old (y ∷ xs) ys zero r h = h
 get_old (y ∷ xs) ys (suc t) r h = get_old xs ys t r h
 
-pub get_set_other : {X : Type 0} (xs ys : List X) (i : ℕ) (x : X) (t : ℕ) (r : X) → (t ≡ i → ⊥) → slice_get xs t ≡ Some r → slice_get (slice_set xs i x ++ ys) t ≡ Some r
+pub get_set_other : {X : Type 0} (xs ys : List X) (i : ℕ) (x : X) (t : ℕ) (r : X) → (t ≡ i → ⊥) → slice_get xs t ≡ Some r
+    → slice_get (slice_set xs i x ++ ys) t ≡ Some r
 get_set_other [] ys i x t r other h = cc
 get_set_other (y ∷ xs) ys zero x zero r other h = absurd (other refl)
 get_set_other (y ∷ xs) ys zero x (suc t) r other h = get_old xs ys t r h

@@ -12,8 +12,10 @@ use Rattle.task_machine.specs.Machine.{Machine, Running, IsStep, after}
 
 pub same_stop : (n k : ℕ) (s t u : TaskState) → Steps n s t → local_step t ≡ None → Steps k s u → local_step u ≡ None → t ≡ u
 same_stop zero zero s t u a at b bt = sym a ∙ b
-same_stop zero (suc k) s t u a at b bt = absurd (let e : local_step s ≡ None = subst (λ x. local_step x ≡ None) (sym a) at in let f : local_step s ≡ Some b.0 = b.1 in cc)
-same_stop (suc n) zero s t u a at b bt = absurd (let e : local_step s ≡ None = subst (λ x. local_step x ≡ None) (sym b) bt in let f : local_step s ≡ Some a.0 = a.1 in cc)
+same_stop zero (suc k) s t u a at b bt =
+    absurd (let e : local_step s ≡ None = subst (λ x. local_step x ≡ None) (sym a) at in let f : local_step s ≡ Some b.0 = b.1 in cc)
+same_stop (suc n) zero s t u a at b bt =
+    absurd (let e : local_step s ≡ None = subst (λ x. local_step x ≡ None) (sym b) bt in let f : local_step s ≡ Some a.0 = a.1 in cc)
 same_stop (suc n) (suc k) s t u a at b bt =
     let same : a.0 ≡ b.0 = same_Some a.0 b.0 (sym a.1 ∙ b.1) in
     same_stop n k a.0 t u a.2 at (subst (λ x. Steps k x u) (sym same) b.2) bt
@@ -23,7 +25,8 @@ stands_at_one s t u (l, m, (n, below, steps, stop)) (l', m', (n', below', steps'
 
 no_further : (n k : ℕ) (s t u : TaskState) → n < k → Steps n s t → local_step t ≡ None → Steps k s u → ⊥
 no_further n zero s t u lt a at b = absurd (omega arith)
-no_further zero (suc k) s t u lt a at b = let e : local_step s ≡ None = subst (λ x. local_step x ≡ None) (sym a) at in let f : local_step s ≡ Some b.0 = b.1 in cc
+no_further zero (suc k) s t u lt a at b = let e : local_step s ≡ None = subst (λ x. local_step x ≡ None) (sym a) at in let f : local_step s ≡ Some b.0 =
+    b.1 in cc
 no_further (suc n) (suc k) s t u lt a at b =
     let same : a.0 ≡ b.0 = same_Some a.0 b.0 (sym a.1 ∙ b.1) in
     no_further n k a.0 t u (omega arith) a.2 at (subst (λ x. Steps k x u) (sym same) b.2)

@@ -1,5 +1,6 @@
 -- The machine that makes the entries of a run one after the other.
-use Rattle.std.specs.Prelude.{◌≡◌, ℕ, ◌+◌, Bool, true, false, List, [], ◌∷◌, ◌++◌, length, replicate, slice_get, slice_set, count_by, ℤ, pos, Option, Some, None, IsSome, option_and_then}
+use Rattle.std.specs.Prelude.{◌≡◌, ℕ, ◌+◌, Bool, true, false, List, [], ◌∷◌, ◌++◌, length, replicate, slice_get}
+use Rattle.std.specs.Prelude.{slice_set, count_by, ℤ, pos, Option, Some, None, IsSome, option_and_then}
 use Rattle.fut_base.specs.declared.limits.TheConstants.{MOST_CREATES}
 use Rattle.fut_base.specs.declared.record.Value.{Value}
 use Rattle.fut_base.specs.declared.record.Finish.{Finish}

@@ -1,5 +1,6 @@
 -- What a task does: its state, its local steps, what it wishes, and what an entry makes of it.
-use Rattle.std.specs.Prelude.{◌≡◌, ℕ, Bool, true, false, if◌then◌else◌, List, [], ◌∷◌, ◌++◌, length, drop, slice_index_or, slice_set, ℤ, pos, Option, Some, None}
+use Rattle.std.specs.Prelude.{◌≡◌, ℕ, Bool, true, false, if◌then◌else◌, List, [], ◌∷◌, ◌++◌, length}
+use Rattle.std.specs.Prelude.{drop, slice_index_or, slice_set, ℤ, pos, Option, Some, None}
 use Rattle.fut_base.specs.declared.record.Value.{Value}
 use Rattle.fut_base.specs.declared.record.Value.TheVariants.{Int, Fut}
 use Rattle.fut_base.specs.declared.event.Action.{Action}

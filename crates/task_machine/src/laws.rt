@@ -1,5 +1,6 @@
 //! Laws of the machine, and a run worked out by hand.
-ghost use Rattle.task_machine.specs.Laws.{ActingTaskActs, ChildComes, ChildrenComeLater, LeadsByParts, LeadsFurther, LeadsToOne, OthersStay, PrefixIsLegal, StandsAtOne, StandsOrGoesOn, StepIsOne, StrandsRise, StrandsWereMade};
+ghost use Rattle.task_machine.specs.Laws.{ActingTaskActs, ChildComes, ChildrenComeLater, LeadsByParts, LeadsFurther, LeadsToOne, OthersStay};
+ghost use Rattle.task_machine.specs.Laws.{PrefixIsLegal, StandsAtOne, StandsOrGoesOn, StepIsOne, StrandsRise, StrandsWereMade};
 ghost use Rattle.task_machine.specs.Rows.{NumberRow, ReturnRow, SpawnRow};
 
 pub fn step_is_one()

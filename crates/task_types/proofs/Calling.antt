@@ -1,5 +1,6 @@
 -- Calls of a well-typed program: the called task is there, and the arguments fit.
-use Rattle.std.proofs.Common.{◌≡◌, ℕ, zero, suc, ◌+◌, Bool, true, false, cond, List, [], ◌∷◌, ◌++◌, length, take, drop, inl, inr, refl, sym, ap, ◌∙◌, subst, arith, eqb-true, eq-eqb}
+use Rattle.std.proofs.Common.{◌≡◌, ℕ, zero, suc, ◌+◌, Bool, true, false, cond, List, [], ◌∷◌, ◌++◌, length}
+use Rattle.std.proofs.Common.{take, drop, inl, inr, refl, sym, ap, ◌∙◌, subst, arith, eqb-true, eq-eqb}
 use Rattle.std.specs.Prelude.{Some, None, Option, ℤ, pos, slice_get, slice_index_or, bytes_eq, nat_eq}
 use Rattle.std.proofs.Math.Seq.{take-append_seam, drop-append_seam}
 use Rattle.std.proofs.lemmas.Option.{same_Some}
@@ -34,13 +35,17 @@ use Rattle.task_types.proofs.Stepping.{made}
 -- ---- what a name means
 
 -- an array of cells has a cell at each index
-pub cell_found : (items : List tree.Item) (n : ℕ) (w : List ℕ) (z : ℤ) → means_cells (declaration items w) ≡ true → (c : ℕ) × (find_cell (arrays_from n items) w z ≡ Some c)
+pub cell_found : (items : List tree.Item) (n : ℕ) (w : List ℕ) (z : ℤ) → means_cells (declaration items w) ≡ true
+    → (c : ℕ) × (find_cell (arrays_from n items) w z ≡ Some c)
 cell_found [] n w z h = absurd (let e : false ≡ true = h in cc)
 cell_found (tree.CellsOf name m ∷ rest) n w z h =
-    by_bool (λ b. means_cells (cond b (Some (tree.CellsOf name m)) (declaration rest w)) ≡ true → (c : ℕ) × (cond b (Some (n + index_of m z)) (find_cell (arrays_from (n + m) rest) w z) ≡ Some c)) (bytes_eq name w)
+    by_bool
+    (λ b. means_cells (cond b (Some (tree.CellsOf name m)) (declaration rest w)) ≡ true
+    → (c : ℕ) × (cond b (Some (n + index_of m z)) (find_cell (arrays_from (n + m) rest) w z) ≡ Some c)) (bytes_eq name w)
     (λ t. λ e. (n + index_of m z, refl)) (λ f. λ e. cell_found rest (n + m) w z e) h
 cell_found (tree.TaskOf name ps d b ∷ rest) n w z h =
-    by_bool (λ c. means_cells (cond c (Some (tree.TaskOf name ps d b)) (declaration rest w)) ≡ true → (c : ℕ) × (find_cell (arrays_from n rest) w z ≡ Some c)) (bytes_eq name w)
+    by_bool (λ c. means_cells (cond c (Some (tree.TaskOf name ps d b)) (declaration rest w)) ≡ true → (c : ℕ) × (find_cell (arrays_from n rest) w z ≡ Some c))
+    (bytes_eq name w)
     (λ t. λ e. absurd (let q : false ≡ true = e in cc)) (λ f. λ e. cell_found rest n w z e) h
 
 -- a task that a name means, by its place
@@ -55,12 +60,15 @@ pub record TaskFound (items : List tree.Item) (n : ℕ) (w : List ℕ) (s : Sign
 pub task_found : (items : List tree.Item) (n : ℕ) (w : List ℕ) (s : Signature) → means_task (declaration items w) ≡ Some s → TaskFound items n w s
 task_found [] n w s h = absurd (no_some s _ h refl)
 task_found (tree.CellsOf name m ∷ rest) n w s h =
-    by_bool (λ b. means_task (cond b (Some (tree.CellsOf name m)) (declaration rest w)) ≡ Some s → TaskFound (tree.CellsOf name m ∷ rest) n w s) (bytes_eq name w)
+    by_bool (λ b. means_task (cond b (Some (tree.CellsOf name m)) (declaration rest w)) ≡ Some s → TaskFound (tree.CellsOf name m ∷ rest) n w s)
+    (bytes_eq name w)
     (λ t. λ e. absurd (no_some s _ e refl))
     (λ f. λ e. (let r = task_found rest n w s e in record { place = r.place; number = r.number; text = r.text; is = r.is; params = r.params; depth = r.depth }))
     h
 task_found (tree.TaskOf name ps d b ∷ rest) n w s h =
-    by_bool (λ c. bytes_eq name w ≡ c → means_task (cond c (Some (tree.TaskOf name ps d b)) (declaration rest w)) ≡ Some s → TaskFound (tree.TaskOf name ps d b ∷ rest) n w s) (bytes_eq name w)
+    by_bool
+    (λ c. bytes_eq name w ≡ c → means_task (cond c (Some (tree.TaskOf name ps d b)) (declaration rest w)) ≡ Some s
+    → TaskFound (tree.TaskOf name ps d b ∷ rest) n w s) (bytes_eq name w)
     (λ t. λ i e. (
     let same : record { params = ps; result = d } ≡ s = same_Some _ s e in
     record {
@@ -75,7 +83,8 @@ task_found (tree.TaskOf name ps d b ∷ rest) n w s h =
     let r = task_found rest (n + 1) w s e in
     record {
       place = suc r.place;
-      number = cond-false (bytes_eq name w) (Some n) (number_from (n + 1) (tasks_from rest) w) i ∙ r.number ∙ ap Some (let q : n + 1 + r.place ≡ n + suc r.place = omega arith in q);
+      number = cond-false (bytes_eq name w) (Some n) (number_from (n + 1) (tasks_from rest) w) i ∙ r.number
+          ∙ ap Some (let q : n + 1 + r.place ≡ n + suc r.place = omega arith in q);
       text = r.text;
       is = r.is;
       params = r.params;
@@ -93,7 +102,8 @@ slot_back gives (kind.Handle d) (Many vs) h = absurd h
 slot_back gives (kind.Array d n) (One v) h = absurd h
 slot_back gives (kind.Array d n) (Many vs) h = (refl, h.0)
 
-pub args_fit : (gives : ℕ → ℕ → Bool) (vis : List Variable) (vars : Variables) (n : ℕ) (ps : List tree.Param) (es : List tree.Expr) → Holds gives vis vars → length ps ≡ length es → args_faults vis n ps es ≡ [] → ParamsFit gives ps (values_in vars es)
+pub args_fit : (gives : ℕ → ℕ → Bool) (vis : List Variable) (vars : Variables) (n : ℕ) (ps : List tree.Param) (es : List tree.Expr) → Holds gives vis vars
+    → length ps ≡ length es → args_faults vis n ps es ≡ [] → ParamsFit gives ps (values_in vars es)
 args_fit gives vis vars n [] [] h l f = refl
 args_fit gives vis vars n [] (e ∷ es) h l f = absurd (omega arith)
 args_fit gives vis vars n (p ∷ ps) [] h l f = absurd (omega arith)
@@ -125,7 +135,9 @@ pub record IsCalled (gives : ℕ → ℕ → Bool) (P : tree.Program) (vars : Va
 pub call_known : (o : Option Signature) (count n : ℕ) → broken (call_rule o count) n ≡ [] → (s : Signature) × (o ≡ Some s) × (length s.params ≡ count)
 call_known None count n h = absurd (no_some _ _ refl (unbroken (call_rule None count) n h))
 call_known (Some s) count n h =
-    by_bool (λ b. nat_eq (length s.params) count ≡ b → broken (cond b None (Some rule.ArgumentCount)) n ≡ [] → (x : Signature) × (Some s ≡ Some x) × (length x.params ≡ count)) (nat_eq (length s.params) count)
+    by_bool
+    (λ b. nat_eq (length s.params) count ≡ b → broken (cond b None (Some rule.ArgumentCount)) n ≡ []
+    → (x : Signature) × (Some s ≡ Some x) × (length x.params ≡ count)) (nat_eq (length s.params) count)
     (λ t. λ i e. (s, refl, eqb-true (length s.params) count t))
     (λ f. λ i e. absurd (no_some _ _ refl (unbroken (Some rule.ArgumentCount) n e)))
     refl h
@@ -133,7 +145,8 @@ call_known (Some s) count n h =
 tested : (s : Signature) (count : ℕ) → length s.params ≡ count → tested_params (Some s) count ≡ s.params
 tested s count e = cond-true (nat_eq (length s.params) count) s.params [] (eq-eqb (length s.params) count e)
 
-pub called : (gives : ℕ → ℕ → Bool) (P : tree.Program) (vis : List Variable) (vars : Variables) (n : ℕ) (w : List ℕ) (es : List tree.Expr) → Holds gives vis vars → call_faults (items_of P) vis n w es ≡ [] → IsCalled gives P vars w es
+pub called : (gives : ℕ → ℕ → Bool) (P : tree.Program) (vis : List Variable) (vars : Variables) (n : ℕ) (w : List ℕ) (es : List tree.Expr)
+    → Holds gives vis vars → call_faults (items_of P) vis n w es ≡ [] → IsCalled gives P vars w es
 called gives P vis vars n w es h f =
     let o = means_task (declaration (items_of P) w) in
     let k = call_known o (length es) n (nil_left (broken (call_rule o (length es)) n) (args_faults vis (n + 2) (tested_params o (length es)) es) f) in
@@ -172,14 +185,17 @@ size_is (tree.Array d n) = refl
 left_is : (type : tree.VarType) (own rest : List Value) → length own ≡ size (kind_of type) → drop (size_of type) (own ++ rest) ≡ rest
 left_is type own rest h = subst (λ k. drop k (own ++ rest) ≡ rest) (h ∙ sym (size_is type)) (drop-append_seam own rest)
 
-pub bound_holds : (gives : ℕ → ℕ → Bool) (all : List Variable) (ps : List tree.Param) (args : List Value) → ((x y : Variable) → Among x all → Among y all → x.name ≡ y.name → x ≡ y) → AllAmong (param_variables ps) all → ParamsFit gives ps args → Holds gives (param_variables ps) (bound ps args)
+pub bound_holds : (gives : ℕ → ℕ → Bool) (all : List Variable) (ps : List tree.Param) (args : List Value)
+    → ((x y : Variable) → Among x all → Among y all → x.name ≡ y.name → x ≡ y) → AllAmong (param_variables ps) all → ParamsFit gives ps args
+    → Holds gives (param_variables ps) (bound ps args)
 bound_holds gives all [] args one a fit x i = absurd i
 bound_holds gives all (p ∷ ps) args one a (own, rest, split, has, count, more) x i =
     let own_has : HasKind gives (kind_of p.type) (taken p.type args) =
     subst (λ vs. HasKind gives (kind_of p.type) (taken p.type vs)) (sym split) (subst (HasKind gives (kind_of p.type)) (taken_is p.type own rest count) has)
     in
     let left : bound ps (drop (size_of p.type) args) ≡ bound ps rest = ap (bound ps) (ap (drop (size_of p.type)) split ∙ left_is p.type own rest count) in
-    by_bool (λ b. bytes_eq p.name x.name ≡ b → HasKind gives x.kind (cond b (taken p.type args) (slot_at (bound ps (drop (size_of p.type) args)) x.name))) (bytes_eq p.name x.name)
+    by_bool (λ b. bytes_eq p.name x.name ≡ b → HasKind gives x.kind (cond b (taken p.type args) (slot_at (bound ps (drop (size_of p.type) args)) x.name)))
+    (bytes_eq p.name x.name)
     (λ t. λ e. (
     let same : param_variable p ≡ x = one (param_variable p) x (a (param_variable p) (inl refl)) (a x i) (word_is p.name x.name t) in
     subst (λ (q : Variable). HasKind gives q.kind (taken p.type args)) same own_has))
@@ -188,16 +204,20 @@ bound_holds gives all (p ∷ ps) args one a (own, rest, split, has, count, more)
       | inr j ↦ subst (λ vs. HasKind gives x.kind (slot_at vs x.name)) (sym left) (bound_holds gives all ps rest one (λ y k. a y (inr k)) more x j)
     ]) refl
 
-pub bound_globals : (globals : List tree.Item) (ps : List tree.Param) (args : List Value) (w : List ℕ) → ((x : Variable) → Among x (param_variables ps) → declares globals x.name ≡ false) → declares globals w ≡ true → slot_at (bound ps args) w ≡ One (Int (pos 0))
+pub bound_globals : (globals : List tree.Item) (ps : List tree.Param) (args : List Value) (w : List ℕ)
+    → ((x : Variable) → Among x (param_variables ps) → declares globals x.name ≡ false) → declares globals w ≡ true
+    → slot_at (bound ps args) w ≡ One (Int (pos 0))
 bound_globals globals [] args w l d = refl
 bound_globals globals (p ∷ ps) args w l d =
-    by_bool (λ b. bytes_eq p.name w ≡ b → cond b (taken p.type args) (slot_at (bound ps (drop (size_of p.type) args)) w) ≡ One (Int (pos 0))) (bytes_eq p.name w)
+    by_bool (λ b. bytes_eq p.name w ≡ b → cond b (taken p.type args) (slot_at (bound ps (drop (size_of p.type) args)) w) ≡ One (Int (pos 0)))
+    (bytes_eq p.name w)
     (λ t. λ e. absurd (both_ways (declares globals w) (subst (λ n. declares globals n ≡ false) (word_is p.name w t) (l (param_variable p) (inl refl))) d))
     (λ f. λ e. bound_globals globals ps (drop (size_of p.type) args) w (λ x i. l x (inr i)) d)
     refl
 
 -- the task of the text at the same place
-pub text_task : (items : List tree.Item) (which : ℕ) (t : Text) → slice_get (texts_from items) which ≡ Some t → (x : TaskText) × (slice_get (tasks_from items) which ≡ Some x) × (x.params ≡ t.params) × (x.body ≡ t.body)
+pub text_task : (items : List tree.Item) (which : ℕ) (t : Text) → slice_get (texts_from items) which ≡ Some t
+    → (x : TaskText) × (slice_get (tasks_from items) which ≡ Some x) × (x.params ≡ t.params) × (x.body ≡ t.body)
 text_task [] which t h = absurd (no_some t _ h refl)
 text_task (tree.CellsOf name m ∷ rest) which t h = text_task rest which t h
 text_task (tree.TaskOf name ps d b ∷ rest) zero t h =
@@ -205,19 +225,23 @@ text_task (tree.TaskOf name ps d b ∷ rest) zero t h =
     (record { name = name; params = ps; body = b }, refl, ap (λ (x : Text). x.params) same, ap (λ (x : Text). x.body) same)
 text_task (tree.TaskOf name ps d b ∷ rest) (suc which) t h = text_task rest which t h
 
-pub start_typed : (gives : ℕ → ℕ → Bool) (P : tree.Program) (which : ℕ) (args : List Value) → IsWellTyped P → ArgsFit gives P which args → IsTypedState gives P which (start_state P which args)
+pub start_typed : (gives : ℕ → ℕ → Bool) (P : tree.Program) (which : ℕ) (args : List Value) → IsWellTyped P → ArgsFit gives P which args
+    → IsTypedState gives P which (start_state P which args)
 start_typed gives P which args w (t, is, fit) =
     let good = good_text P which t w is in
     let x = text_task (items_of P) which t is in
     let begun : TaskState = record { vars = bound t.params args; todo = stmts_of t.body; is_open = false } in
     let same : begun ≡ start_state P which args =
-    ap (λ (ps : List tree.Param). record { vars = bound ps args; todo = stmts_of t.body; is_open = false }) (sym x.2) ∙ ap (λ (b : tree.Block). record { vars = bound x.0.params args; todo = stmts_of b; is_open = false }) (sym x.3) ∙ ap (λ o. started o args) (sym x.1)
+    ap (λ (ps : List tree.Param). record { vars = bound ps args; todo = stmts_of t.body; is_open = false }) (sym x.2)
+    ∙ ap (λ (b : tree.Block). record { vars = bound x.0.params args; todo = stmts_of b; is_open = false }) (sym x.3) ∙ ap (λ o. started o args) (sym x.1)
     in
     subst (IsTypedState gives P which) same
     (made gives P which t (param_variables t.params) begun is
     (record {
       declared = λ y i. among_left y (param_variables t.params) (Rattle.fut_check.specs.Stmts.declared_in_block t.body) i;
-      holds = bound_holds gives (variables_of t) t.params args good.apart.one (λ y i. among_left y (param_variables t.params) (Rattle.fut_check.specs.Stmts.declared_in_block t.body) i) fit;
-      globals_are = λ n d. bound_globals (items_of P) t.params args n (λ y i. good.apart.local y (among_left y (param_variables t.params) (Rattle.fut_check.specs.Stmts.declared_in_block t.body) i)) d;
+      holds = bound_holds gives (variables_of t) t.params args good.apart.one
+          (λ y i. among_left y (param_variables t.params) (Rattle.fut_check.specs.Stmts.declared_in_block t.body) i) fit;
+      globals_are = λ n d. bound_globals (items_of P) t.params args n
+          (λ y i. good.apart.local y (among_left y (param_variables t.params) (Rattle.fut_check.specs.Stmts.declared_in_block t.body) i)) d;
     })
     good.starts good.returns)

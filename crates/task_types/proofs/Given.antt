@@ -38,7 +38,8 @@ named (x ∷ xs) w k h =
     (λ f. λ e i. (let n = named xs w k e in record { variable = n.variable; among = inr n.among; name = n.name; kind = n.kind }))
     h refl
 
-pub named_holds : (gives : ℕ → ℕ → Bool) (vis : List Variable) (vars : Variables) (w : List ℕ) (k : Kind) → Holds gives vis vars → kind_named vis w ≡ Some k → HasKind gives k (slot_at vars w)
+pub named_holds : (gives : ℕ → ℕ → Bool) (vis : List Variable) (vars : Variables) (w : List ℕ) (k : Kind) → Holds gives vis vars → kind_named vis w ≡ Some k
+    → HasKind gives k (slot_at vars w)
 named_holds gives vis vars w k h e =
     let n = named vis w k e in
     subst (λ x. HasKind gives k (slot_at vars x)) n.name (subst (λ x. HasKind gives x (slot_at vars n.variable.name)) n.kind (h n.variable n.among))
@@ -52,16 +53,19 @@ known_kind None n h = absurd (no_some _ _ refl (unbroken (unknown None) n h))
 known_kind (Some k) n h = (k, refl)
 
 mutual
-  pub expr_given : (gives : ℕ → ℕ → Bool) (vis : List Variable) (vars : Variables) (n : ℕ) (e : tree.Expr) → Holds gives vis vars → expr_faults vis n e ≡ [] → IsGiven gives (expr_kind vis e) (slot_in vars e)
+  pub expr_given : (gives : ℕ → ℕ → Bool) (vis : List Variable) (vars : Variables) (n : ℕ) (e : tree.Expr) → Holds gives vis vars → expr_faults vis n e ≡ []
+      → IsGiven gives (expr_kind vis e) (slot_in vars e)
   expr_given gives vis vars n (tree.Alone x) h f = operand_given gives vis vars n x h f
   expr_given gives vis vars n (tree.Pair x o y) h f = (kind.Int, refl, tt)
 
-  pub operand_given : (gives : ℕ → ℕ → Bool) (vis : List Variable) (vars : Variables) (n : ℕ) (x : tree.Operand) → Holds gives vis vars → operand_faults vis n x ≡ [] → IsGiven gives (operand_kind vis x) (operand_in vars x)
+  pub operand_given : (gives : ℕ → ℕ → Bool) (vis : List Variable) (vars : Variables) (n : ℕ) (x : tree.Operand) → Holds gives vis vars
+      → operand_faults vis n x ≡ [] → IsGiven gives (operand_kind vis x) (operand_in vars x)
   operand_given gives vis vars n (tree.Signed tree.NoSign p) h f = primary_given gives vis vars n p h f
   operand_given gives vis vars n (tree.Signed tree.Negative p) h f = (kind.Int, refl, tt)
   operand_given gives vis vars n (tree.Signed tree.Inverted p) h f = (kind.Int, refl, tt)
 
-  pub primary_given : (gives : ℕ → ℕ → Bool) (vis : List Variable) (vars : Variables) (n : ℕ) (p : tree.Primary) → Holds gives vis vars → primary_faults vis n p ≡ [] → IsGiven gives (primary_kind vis p) (primary_in vars p)
+  pub primary_given : (gives : ℕ → ℕ → Bool) (vis : List Variable) (vars : Variables) (n : ℕ) (p : tree.Primary) → Holds gives vis vars
+      → primary_faults vis n p ≡ [] → IsGiven gives (primary_kind vis p) (primary_in vars p)
   primary_given gives vis vars n (tree.Literal m) h f = (kind.Int, refl, tt)
   primary_given gives vis vars n (tree.Name w) h f =
       (let k = known_kind (kind_named vis w) n f in (k.0, k.1, named_holds gives vis vars w k.0 h k.1))
@@ -82,13 +86,15 @@ eq_needed {X} a b x o h =
     (λ f. λ e i. absurd (no_some x (Some x) refl e))
     h refl
 
-pub fits_handle : (gives : ℕ → ℕ → Bool) (d : ℕ) (k : Kind) (s : Slot) → need_rule (need.Handle d) k ≡ None → HasKind gives k s → Fits gives (suc d) (value_of s)
+pub fits_handle : (gives : ℕ → ℕ → Bool) (d : ℕ) (k : Kind) (s : Slot) → need_rule (need.Handle d) k ≡ None → HasKind gives k s
+    → Fits gives (suc d) (value_of s)
 fits_handle gives d kind.Int s r h = absurd (no_some _ _ refl r)
 fits_handle gives d (kind.Handle e) (One v) r h = subst (λ x. Fits gives (suc x) v) (sym (eq_needed d e _ None r).0) h
 fits_handle gives d (kind.Handle e) (Many vs) r h = absurd h
 fits_handle gives d (kind.Array e m) s r h = absurd (no_some _ _ refl r)
 
-pub fits_plain : (gives : ℕ → ℕ → Bool) (d : ℕ) (k : Kind) (s : Slot) → need_rule (argument_need (plain d)) k ≡ None → HasKind gives k s → Fits gives d (value_of s)
+pub fits_plain : (gives : ℕ → ℕ → Bool) (d : ℕ) (k : Kind) (s : Slot) → need_rule (argument_need (plain d)) k ≡ None → HasKind gives k s
+    → Fits gives d (value_of s)
 fits_plain gives zero k s r h = fits_int gives k s r h
 fits_plain gives (suc d) k s r h = fits_handle gives d k s r h
 
@@ -97,7 +103,8 @@ abbrev pub inside : tree.VarType → ℕ
 inside (tree.Plain d) = d
 inside (tree.Array d n) = d
 
-pub init_fits : (gives : ℕ → ℕ → Bool) (v : tree.VarType) (k : Kind) (s : Slot) → need_rule (init_need (kind_of v)) k ≡ None → HasKind gives k s → Fits gives (inside v) (value_of s)
+pub init_fits : (gives : ℕ → ℕ → Bool) (v : tree.VarType) (k : Kind) (s : Slot) → need_rule (init_need (kind_of v)) k ≡ None → HasKind gives k s
+    → Fits gives (inside v) (value_of s)
 init_fits gives (tree.Plain zero) k s r h = fits_int gives k s r h
 init_fits gives (tree.Plain (suc d)) k s r h = fits_handle gives d k s r h
 init_fits gives (tree.Array d n) k s r h = fits_plain gives d k s r h
@@ -132,11 +139,14 @@ pub record Meets (gives : ℕ → ℕ → Bool) (n : Need) (s : Slot) : Type 0 w
   pub rule : need_rule n kind ≡ None
   pub has : HasKind gives kind s
 
-pub meets_of : (gives : ℕ → ℕ → Bool) (n : Need) (given : Option Kind) (s : Slot) (at : ℕ) → IsGiven gives given s → broken (unmet (Some n) given) at ≡ [] → Meets gives n s
+pub meets_of : (gives : ℕ → ℕ → Bool) (n : Need) (given : Option Kind) (s : Slot) (at : ℕ) → IsGiven gives given s → broken (unmet (Some n) given) at ≡ []
+    → Meets gives n s
 meets_of gives n given s at g f =
     record { kind = g.0; rule = subst (λ o. unmet (Some n) o ≡ None) g.1 (unbroken (unmet (Some n) given) at f); has = g.2 }
 
-pub expr_meets : (gives : ℕ → ℕ → Bool) (vis : List Variable) (vars : Variables) (at : ℕ) (n : Need) (e : tree.Expr) → Holds gives vis vars → needed_faults vis at (Some n) e ≡ [] → Meets gives n (slot_in vars e)
+pub expr_meets : (gives : ℕ → ℕ → Bool) (vis : List Variable) (vars : Variables) (at : ℕ) (n : Need) (e : tree.Expr) → Holds gives vis vars
+    → needed_faults vis at (Some n) e ≡ [] → Meets gives n (slot_in vars e)
 expr_meets gives vis vars at n e h f =
     let here = nil_left (expr_faults vis at e) (broken (unmet (Some n) (expr_kind vis e)) at) f in
-    meets_of gives n (expr_kind vis e) (slot_in vars e) at (expr_given gives vis vars at e h here) (nil_right (expr_faults vis at e) (broken (unmet (Some n) (expr_kind vis e)) at) f)
+    meets_of gives n (expr_kind vis e) (slot_in vars e) at (expr_given gives vis vars at e h here)
+    (nil_right (expr_faults vis at e) (broken (unmet (Some n) (expr_kind vis e)) at) f)

@@ -52,7 +52,8 @@ typed_on old new P which s g x =
       returns = x.returns;
     }
 
-pub action_on : (old new : ℕ → ℕ → Bool) (P : tree.Program) (which : ℕ) (s : TaskState) (a : Action) → Grows old new → ActionFits old P which s a → ActionFits new P which s a
+pub action_on : (old new : ℕ → ℕ → Bool) (P : tree.Program) (which : ℕ) (s : TaskState) (a : Action) → Grows old new → ActionFits old P which s a
+    → ActionFits new P which s a
 action_on old new P which s (Reads cell value) g h = tt
 action_on old new P which s (Writes cell value) g h = tt
 action_on old new P which s (Spawns code child kid cont args) g h = tt

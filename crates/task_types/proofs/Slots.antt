@@ -75,7 +75,8 @@ all_at gives d [] i v h l = absurd (omega arith)
 all_at gives d (x ∷ xs) zero v h l = h.0
 all_at gives d (x ∷ xs) (suc i) v h l = all_at gives d xs i v h.1 (omega arith)
 
-pub all_set : (gives : ℕ → ℕ → Bool) (d : ℕ) (vs : List Value) (i : ℕ) (v : Value) → AllFit gives d vs → Fits gives d v → AllFit gives d (Rattle.std.specs.Prelude.slice_set vs i v)
+pub all_set : (gives : ℕ → ℕ → Bool) (d : ℕ) (vs : List Value) (i : ℕ) (v : Value) → AllFit gives d vs → Fits gives d v
+    → AllFit gives d (Rattle.std.specs.Prelude.slice_set vs i v)
 all_set gives d [] i v h f = tt
 all_set gives d (x ∷ xs) zero v h f = (f, h.1)
 all_set gives d (x ∷ xs) (suc i) v h f = (h.0, all_set gives d xs i v h.1 f)

@@ -1,5 +1,6 @@
 -- What a program without faults is: names that differ, good types, and bodies without faults.
-use Rattle.std.proofs.Common.{◌≡◌, ◌≢◌, ℕ, zero, suc, ◌+◌, Bool, true, false, not, ◌&&◌, List, [], ◌∷◌, ◌++◌, append_assoc, inl, inr, refl, sym, ap, ◌∙◌, subst, arith, eq-eqb, append-nil, lt-ltb}
+use Rattle.std.proofs.Common.{◌≡◌, ◌≢◌, ℕ, zero, suc, ◌+◌, Bool, true, false, not, ◌&&◌, List, [], ◌∷◌, ◌++◌}
+use Rattle.std.proofs.Common.{append_assoc, inl, inr, refl, sym, ap, ◌∙◌, subst, arith, eq-eqb, append-nil, lt-ltb}
 use Rattle.std.specs.Prelude.{Some, bytes_eq, nat_eq, nat_lt, slice_get}
 use Rattle.std.proofs.lemmas.Bool.{not-false, or_parts, both_ways}
 use Rattle.std.proofs.lemmas.Option.{same_Some}
@@ -16,8 +17,10 @@ use Rattle.fut_rules.specs.Names.{Scope, declares, is_named, slots, variable, ta
 use Rattle.fut_rules.specs.Exprs.{needed_faults, for_int}
 use Rattle.fut_rules.specs.Inits.{init_faults}
 use Rattle.fut_rules.specs.Widths.{expr_width, type_width, stmt_width, block_width, param_width, params_width, item_width}
-use Rattle.fut_check.specs.Stmts.{type_faults, depth_faults, is_bad_length, is_doubled, declared_faults, is_handle, shown, declared_in, declared_in_block, declared_in_tail, with_declared, scope_after, stmt_faults, block_faults, tail_faults, is_return, ends_with, ends_with_return}
-use Rattle.fut_check.specs.Items.{items_of, param_variable, param_variables, is_over, param_faults, params_faults, has_params, opening_scope, body_faults, head_faults, item_faults, items_faults, IsWellTyped}
+use Rattle.fut_check.specs.Stmts.{type_faults, depth_faults, is_bad_length, is_doubled, declared_faults, is_handle, shown, declared_in, declared_in_block}
+use Rattle.fut_check.specs.Stmts.{declared_in_tail, with_declared, scope_after, stmt_faults, block_faults, tail_faults, is_return, ends_with, ends_with_return}
+use Rattle.fut_check.specs.Items.{items_of, param_variable, param_variables, is_over, param_faults, params_faults, has_params}
+use Rattle.fut_check.specs.Items.{opening_scope, body_faults, head_faults, item_faults, items_faults, IsWellTyped}
 use Rattle.task_machine.specs.Texts.{stmts_of}
 use Rattle.task_types.specs.Typed.{Text, texts_from, text_at, variables_of, AllAmong, AllBreakNone, EndsWithReturn}
 use Rattle.task_types.proofs.Slots.{no_some, nil_left, nil_right, nil_three, not_found, same_word}
@@ -44,9 +47,12 @@ only_one : {X : Type 0} (x y : X) → Among x (y ∷ []) → y ≡ x
 only_one x y (inl e) = e
 only_one x y (inr a) = absurd a
 
-pub one_more : (globals : List tree.Item) (xs : List Variable) (x : Variable) (n : ℕ) → AreApart globals xs → declared_faults globals xs n x ≡ [] → IsGoodKind x.kind → AreApart globals (xs ++ x ∷ [])
+pub one_more : (globals : List tree.Item) (xs : List Variable) (x : Variable) (n : ℕ) → AreApart globals xs → declared_faults globals xs n x ≡ []
+    → IsGoodKind x.kind → AreApart globals (xs ++ x ∷ [])
 one_more globals xs x n a f g =
-    let doubled : is_doubled globals xs x.name ≡ false = not_found (is_doubled globals xs x.name) n rule.DoubledName (nil_left (fault_if (is_doubled globals xs x.name) n rule.DoubledName) (fault_if (nat_lt 80 (slots xs + size x.kind)) n rule.ConstantLimit) f) in
+    let doubled : is_doubled globals xs x.name ≡ false =
+    not_found (is_doubled globals xs x.name) n rule.DoubledName
+    (nil_left (fault_if (is_doubled globals xs x.name) n rule.DoubledName) (fault_if (nat_lt 80 (slots xs + size x.kind)) n rule.ConstantLimit) f) in
     let parts = or_parts (is_named xs x.name) (declares globals x.name) doubled in
     record {
       one = λ y z i j e. elim (among_split y xs (x ∷ []) i) [
@@ -85,14 +91,17 @@ type_good n (tree.Array d m) f =
 
 -- ---- parameters
 
-pub params_apart : (globals : List tree.Item) (before : List Variable) (n : ℕ) (ps : List tree.Param) → AreApart globals before → params_faults globals before n ps ≡ [] → AreApart globals (before ++ param_variables ps)
+pub params_apart : (globals : List tree.Item) (before : List Variable) (n : ℕ) (ps : List tree.Param) → AreApart globals before
+    → params_faults globals before n ps ≡ [] → AreApart globals (before ++ param_variables ps)
 params_apart globals before n [] a f = subst (AreApart globals) (sym (append-nil before)) a
 params_apart globals before n (p ∷ ps) a f =
     let own = nil_left (param_faults globals before n p) (params_faults globals (before ++ param_variable p ∷ []) (n + param_width p) ps) f in
     let rest = nil_right (param_faults globals before n p) (params_faults globals (before ++ param_variable p ∷ []) (n + param_width p) ps) f in
-    let parts = nil_three (declared_faults globals before n (param_variable p)) (fault_if (is_over before (kind_of p.type)) n rule.ConstantLimit) (type_faults (n + 2) p.type) own in
+    let parts = nil_three (declared_faults globals before n (param_variable p)) (fault_if (is_over before (kind_of p.type)) n rule.ConstantLimit)
+    (type_faults (n + 2) p.type) own in
     subst (AreApart globals) (append_assoc before (param_variable p ∷ []) (param_variables ps))
-    (params_apart globals (before ++ param_variable p ∷ []) (n + param_width p) ps (one_more globals before (param_variable p) n a parts.0 (type_good (n + 2) p.type parts.2)) rest)
+    (params_apart globals (before ++ param_variable p ∷ []) (n + param_width p) ps
+    (one_more globals before (param_variable p) n a parts.0 (type_good (n + 2) p.type parts.2)) rest)
 
 -- ---- bodies
 
@@ -102,24 +111,30 @@ pub record IfParts (globals : List tree.Item) (s : Scope) (n : ℕ) (e : tree.Ex
   pub block : block_faults globals s (n + 1 + expr_width e + 1) b ≡ []
   pub tail : tail_faults globals (with_declared s (declared_in_block b)) (n + 1 + expr_width e + 1 + block_width b + 1) o ≡ []
 
-pub if_parts : (globals : List tree.Item) (s : Scope) (n : ℕ) (e : tree.Expr) (b : tree.Block) (o : tree.Tail) → stmt_faults globals s n (tree.If' e b o) ≡ [] → IfParts globals s n e b o
+pub if_parts : (globals : List tree.Item) (s : Scope) (n : ℕ) (e : tree.Expr) (b : tree.Block) (o : tree.Tail) → stmt_faults globals s n (tree.If' e b o) ≡ []
+    → IfParts globals s n e b o
 if_parts globals s n e b o f =
-    let parts = nil_three (needed_faults s.visible (n + 1) for_int e) (block_faults globals s (n + 1 + expr_width e + 1) b) (tail_faults globals (with_declared s (declared_in_block b)) (n + 1 + expr_width e + 1 + block_width b + 1) o) f in
+    let parts = nil_three (needed_faults s.visible (n + 1) for_int e) (block_faults globals s (n + 1 + expr_width e + 1) b)
+    (tail_faults globals (with_declared s (declared_in_block b)) (n + 1 + expr_width e + 1 + block_width b + 1) o) f in
     record { test = parts.0; block = parts.1; tail = parts.2 }
 
-pub while_block : (globals : List tree.Item) (s : Scope) (n : ℕ) (e : tree.Expr) (b : tree.Block) → stmt_faults globals s n (tree.While' e b) ≡ [] → block_faults globals s (n + 1 + expr_width e + 1) b ≡ []
+pub while_block : (globals : List tree.Item) (s : Scope) (n : ℕ) (e : tree.Expr) (b : tree.Block) → stmt_faults globals s n (tree.While' e b) ≡ []
+    → block_faults globals s (n + 1 + expr_width e + 1) b ≡ []
 while_block globals s n e b f = nil_right (needed_faults s.visible (n + 1) for_int e) (block_faults globals s (n + 1 + expr_width e + 1) b) f
 
 nothing_more : (globals : List tree.Item) (xs : List Variable) → AreApart globals xs → AreApart globals (xs ++ [])
 nothing_more globals xs a = subst (AreApart globals) (sym (append-nil xs)) a
 
 mutual
-  pub stmt_apart : (globals : List tree.Item) (s : Scope) (n : ℕ) (x : tree.Stmt) → AreApart globals s.declared → stmt_faults globals s n x ≡ [] → AreApart globals (s.declared ++ declared_in x)
+  pub stmt_apart : (globals : List tree.Item) (s : Scope) (n : ℕ) (x : tree.Stmt) → AreApart globals s.declared → stmt_faults globals s n x ≡ []
+      → AreApart globals (s.declared ++ declared_in x)
   stmt_apart globals s n (tree.Declare w v) a f =
-      (let parts = nil_three (declared_faults globals s.declared (n + 1) (variable w v)) (type_faults (n + 3) v) (fault_if (is_handle (kind_of v)) (n + 1) rule.NoValue) f in
+      (let parts = nil_three (declared_faults globals s.declared (n + 1) (variable w v)) (type_faults (n + 3) v)
+      (fault_if (is_handle (kind_of v)) (n + 1) rule.NoValue) f in
       one_more globals s.declared (variable w v) (n + 1) a parts.0 (type_good (n + 3) v parts.1))
   stmt_apart globals s n (tree.Define w v i) a f =
-      (let parts = nil_three (declared_faults globals s.declared (n + 1) (variable w v)) (type_faults (n + 3) v) (init_faults globals s.visible (n + 3 + type_width v + 1) (Some (init_need (kind_of v))) i) f in
+      (let parts = nil_three (declared_faults globals s.declared (n + 1) (variable w v)) (type_faults (n + 3) v)
+      (init_faults globals s.visible (n + 3 + type_width v + 1) (Some (init_need (kind_of v))) i) f in
       one_more globals s.declared (variable w v) (n + 1) a parts.0 (type_good (n + 3) v parts.1))
   stmt_apart globals s n (tree.Assign w i) a f = nothing_more globals s.declared a
   stmt_apart globals s n (tree.Store w e g) a f = nothing_more globals s.declared a
@@ -128,11 +143,13 @@ mutual
   stmt_apart globals s n (tree.If' e b o) a f =
       let parts = if_parts globals s n e b o f in
       subst (AreApart globals) (append_assoc s.declared (declared_in_block b) (declared_in_tail o))
-      (tail_apart globals (with_declared s (declared_in_block b)) (n + 1 + expr_width e + 1 + block_width b + 1) o (block_apart globals s (n + 1 + expr_width e + 1) b a parts.block) parts.tail)
+      (tail_apart globals (with_declared s (declared_in_block b)) (n + 1 + expr_width e + 1 + block_width b + 1) o
+      (block_apart globals s (n + 1 + expr_width e + 1) b a parts.block) parts.tail)
   stmt_apart globals s n (tree.While' e b) a f = block_apart globals s (n + 1 + expr_width e + 1) b a (while_block globals s n e b f)
   stmt_apart globals s n (tree.Return' e) a f = nothing_more globals s.declared a
 
-  pub block_apart : (globals : List tree.Item) (s : Scope) (n : ℕ) (b : tree.Block) → AreApart globals s.declared → block_faults globals s n b ≡ [] → AreApart globals (s.declared ++ declared_in_block b)
+  pub block_apart : (globals : List tree.Item) (s : Scope) (n : ℕ) (b : tree.Block) → AreApart globals s.declared → block_faults globals s n b ≡ []
+      → AreApart globals (s.declared ++ declared_in_block b)
   block_apart globals s n tree.Done a f = nothing_more globals s.declared a
   block_apart globals s n (tree.Then x b) a f =
       let own = nil_left (stmt_faults globals s n x) (block_faults globals (scope_after s x) (n + stmt_width x) b) f in
@@ -140,12 +157,14 @@ mutual
       subst (AreApart globals) (append_assoc s.declared (declared_in x) (declared_in_block b))
       (block_apart globals (scope_after s x) (n + stmt_width x) b (stmt_apart globals s n x a own) rest)
 
-  pub tail_apart : (globals : List tree.Item) (s : Scope) (n : ℕ) (o : tree.Tail) → AreApart globals s.declared → tail_faults globals s n o ≡ [] → AreApart globals (s.declared ++ declared_in_tail o)
+  pub tail_apart : (globals : List tree.Item) (s : Scope) (n : ℕ) (o : tree.Tail) → AreApart globals s.declared → tail_faults globals s n o ≡ []
+      → AreApart globals (s.declared ++ declared_in_tail o)
   tail_apart globals s n tree.NoElse a f = nothing_more globals s.declared a
   tail_apart globals s n (tree.ElseOf b) a f = block_apart globals s (n + 2) b a f
 
 -- the statements of a block without faults break no rule
-pub block_none : (globals : List tree.Item) (t : Text) (s : Scope) (n : ℕ) (known : List Variable) (b : tree.Block) → s.returns ≡ t.depth → AllAmong s.visible known → AllAmong (declared_in_block b) (variables_of t) → block_faults globals s n b ≡ [] → AllBreakNone globals t known (stmts_of b)
+pub block_none : (globals : List tree.Item) (t : Text) (s : Scope) (n : ℕ) (known : List Variable) (b : tree.Block) → s.returns ≡ t.depth
+    → AllAmong s.visible known → AllAmong (declared_in_block b) (variables_of t) → block_faults globals s n b ≡ [] → AllBreakNone globals t known (stmts_of b)
 block_none globals t s n known tree.Done r v d f = tt
 block_none globals t s n known (tree.Then x b) r v d f =
     let own = nil_left (stmt_faults globals s n x) (block_faults globals (scope_after s x) (n + stmt_width x) b) f in
@@ -183,7 +202,8 @@ and_false false b h e = absurd (let q : false ≡ true = e in cc)
 positive : (d : ℕ) → d ≢ 0 → nat_lt 0 d ≡ true
 positive d ne = lt-ltb 0 d (omega (arith, ne))
 
-task_good : (globals before : List tree.Item) (n : ℕ) (w : List ℕ) (ps : List tree.Param) (d : ℕ) (b : tree.Block) → item_faults globals before n (tree.TaskOf w ps d b) ≡ [] → IsGoodText globals (record { params = ps; depth = d; body = b })
+task_good : (globals before : List tree.Item) (n : ℕ) (w : List ℕ) (ps : List tree.Param) (d : ℕ) (b : tree.Block)
+    → item_faults globals before n (tree.TaskOf w ps d b) ≡ [] → IsGoodText globals (record { params = ps; depth = d; body = b })
 task_good globals before n w ps d b f =
     let head = nil_left (head_faults globals before n w ps d) (body_faults globals (opening_scope d ps) (n + 3 + params_width ps + d + 2) b) f in
     let body = nil_right (head_faults globals before n w ps d) (body_faults globals (opening_scope d ps) (n + 3 + params_width ps + d + 2) b) f in
@@ -191,26 +211,37 @@ task_good globals before n w ps d b f =
     let mains = fault_if (is_main w && has_params ps) (n + 3) rule.MainParameters in
     let front = nil_left (names ++ mains ++ params_faults globals [] (n + 3) ps) (depth_faults (n + 3 + params_width ps) d) head in
     let params = nil_right (names ++ mains) (params_faults globals [] (n + 3) ps) front in
-    let block = nil_left (block_faults globals (opening_scope d ps) (n + 3 + params_width ps + d + 2) b) (fault_if (nat_lt 0 d && not (ends_with_return b)) (n + 3 + params_width ps + d + 2 + block_width b) rule.ResultType) body in
-    let last = not_found (nat_lt 0 d && not (ends_with_return b)) (n + 3 + params_width ps + d + 2 + block_width b) rule.ResultType (nil_right (block_faults globals (opening_scope d ps) (n + 3 + params_width ps + d + 2) b) (fault_if (nat_lt 0 d && not (ends_with_return b)) (n + 3 + params_width ps + d + 2 + block_width b) rule.ResultType) body) in
+    let block = nil_left (block_faults globals (opening_scope d ps) (n + 3 + params_width ps + d + 2) b)
+    (fault_if (nat_lt 0 d && not (ends_with_return b)) (n + 3 + params_width ps + d + 2 + block_width b) rule.ResultType) body in
+    let last = not_found (nat_lt 0 d && not (ends_with_return b)) (n + 3 + params_width ps + d + 2 + block_width b) rule.ResultType
+    (nil_right (block_faults globals (opening_scope d ps) (n + 3 + params_width ps + d + 2) b)
+    (fault_if (nat_lt 0 d && not (ends_with_return b)) (n + 3 + params_width ps + d + 2 + block_width b) rule.ResultType) body) in
     let ps_apart = params_apart globals [] (n + 3) ps (none_apart globals) params in
     record {
       apart = block_apart globals (opening_scope d ps) (n + 3 + params_width ps + d + 2) b ps_apart block;
-      starts = block_none globals (record { params = ps; depth = d; body = b }) (opening_scope d ps) (n + 3 + params_width ps + d + 2) (param_variables ps) b refl (λ x i. i) (λ x i. among_right x (param_variables ps) (declared_in_block b) i) block;
+      starts = block_none globals (record { params = ps; depth = d; body = b }) (opening_scope d ps) (n + 3 + params_width ps + d + 2)
+          (param_variables ps) b refl (λ x i. i) (λ x i. among_right x (param_variables ps) (declared_in_block b) i) block;
       returns = λ ne. body_ends b (not-false (ends_with_return b) (and_false (nat_lt 0 d) (not (ends_with_return b)) last (positive d ne)));
       at = n + 3;
       params = params;
     }
 
-pub good_among : (globals before items : List tree.Item) (n which : ℕ) (t : Text) → items_faults globals before n items ≡ [] → slice_get (texts_from items) which ≡ Some t → IsGoodText globals t
+pub good_among : (globals before items : List tree.Item) (n which : ℕ) (t : Text) → items_faults globals before n items ≡ []
+    → slice_get (texts_from items) which ≡ Some t → IsGoodText globals t
 good_among globals before [] n which t f h = absurd (no_some t _ h refl)
 good_among globals before (tree.CellsOf w m ∷ rest) n which t f h =
-    good_among globals (before ++ tree.CellsOf w m ∷ []) rest (n + item_width (tree.CellsOf w m)) which t (nil_right (item_faults globals before n (tree.CellsOf w m)) (items_faults globals (before ++ tree.CellsOf w m ∷ []) (n + item_width (tree.CellsOf w m)) rest) f) h
+    good_among globals (before ++ tree.CellsOf w m ∷ []) rest (n + item_width (tree.CellsOf w m)) which t
+    (nil_right (item_faults globals before n (tree.CellsOf w m))
+    (items_faults globals (before ++ tree.CellsOf w m ∷ []) (n + item_width (tree.CellsOf w m)) rest) f) h
 good_among globals before (tree.TaskOf w ps d b ∷ rest) n zero t f h =
     subst (IsGoodText globals) (same_Some _ t h)
-    (task_good globals before n w ps d b (nil_left (item_faults globals before n (tree.TaskOf w ps d b)) (items_faults globals (before ++ tree.TaskOf w ps d b ∷ []) (n + item_width (tree.TaskOf w ps d b)) rest) f))
+    (task_good globals before n w ps d b
+    (nil_left (item_faults globals before n (tree.TaskOf w ps d b))
+    (items_faults globals (before ++ tree.TaskOf w ps d b ∷ []) (n + item_width (tree.TaskOf w ps d b)) rest) f))
 good_among globals before (tree.TaskOf w ps d b ∷ rest) n (suc which) t f h =
-    good_among globals (before ++ tree.TaskOf w ps d b ∷ []) rest (n + item_width (tree.TaskOf w ps d b)) which t (nil_right (item_faults globals before n (tree.TaskOf w ps d b)) (items_faults globals (before ++ tree.TaskOf w ps d b ∷ []) (n + item_width (tree.TaskOf w ps d b)) rest) f) h
+    good_among globals (before ++ tree.TaskOf w ps d b ∷ []) rest (n + item_width (tree.TaskOf w ps d b)) which t
+    (nil_right (item_faults globals before n (tree.TaskOf w ps d b))
+    (items_faults globals (before ++ tree.TaskOf w ps d b ∷ []) (n + item_width (tree.TaskOf w ps d b)) rest) f) h
 
 pub good_text : (P : tree.Program) (which : ℕ) (t : Text) → IsWellTyped P → text_at P which ≡ Some t → IsGoodText (items_of P) t
 good_text P which t f h = good_among (items_of P) [] (items_of P) 0 which t f h

@@ -4,11 +4,13 @@ use Rattle.access_shards.specs.Kept.{AreKnown}
 use Rattle.access_shards.proofs.tests.keep.Goals as goal
 
 pub write-requires-clause-table_known : goal.write-requires-clause-table_known
-write-requires-clause-table_known c = subst (λ l. AllKnown (length c.args.judge.now.lists.english.order) l) (c.as_slice.ensures.value ∙ c.in_ok-strands.ensures.strands)
+write-requires-clause-table_known c =
+    subst (λ l. AllKnown (length c.args.judge.now.lists.english.order) l) (c.as_slice.ensures.value ∙ c.in_ok-strands.ensures.strands)
     (c.if-not-are_known.ensures refl)
 
 pub read-requires-clause-table_known : goal.read-requires-clause-table_known
-read-requires-clause-table_known c = subst (λ l. AllKnown (length c.args.judge.now.lists.english.order) l) (c.as_slice.ensures.value ∙ c.in_ok-strands.ensures.strands)
+read-requires-clause-table_known c =
+    subst (λ l. AllKnown (length c.args.judge.now.lists.english.order) l) (c.as_slice.ensures.value ∙ c.in_ok-strands.ensures.strands)
     (c.if-not-are_known.ensures refl)
 
 pub returns-then-writes : goal.returns-then-writes

@@ -38,16 +38,32 @@ returns c =
     record {
       first = record {
         machine = machine_after apart_program (opening apart_program) child_first;
-        leads = leads_all apart_program (opening apart_program) child_first
-            ((refl, refl, refl, refl, refl, (refl, refl, refl)), ((refl, refl, refl, refl, refl, tt), ((refl, refl, refl, refl, refl, tt), ((refl, refl, refl, refl, refl, tt), ((refl, refl, refl, refl, refl, (refl, (refl, tt))), ((refl, refl, refl, refl, refl, tt), tt))))));
+        leads = leads_all apart_program (opening apart_program) child_first (
+          (refl, refl, refl, refl, refl, (refl, refl, refl)),
+          (
+            (refl, refl, refl, refl, refl, tt),
+            (
+              (refl, refl, refl, refl, refl, tt),
+              ((refl, refl, refl, refl, refl, tt), ((refl, refl, refl, refl, refl, (refl, (refl, tt))), ((refl, refl, refl, refl, refl, tt), tt))),
+            ),
+          ),
+        );
         ended = (refl, (refl, tt));
         cells_are = refl;
       };
       report = record { each = λ k d lt. absurd (omega (arith, lt)); whole = λ w i j r. absurd (none_race w i j r); order = tt };
       other = record {
         machine = machine_after apart_program (opening apart_program) main_first;
-        leads = leads_all apart_program (opening apart_program) main_first
-            ((refl, refl, refl, refl, refl, (refl, refl, refl)), ((refl, refl, refl, refl, refl, tt), ((refl, refl, refl, refl, refl, tt), ((refl, refl, refl, refl, refl, tt), ((refl, refl, refl, refl, refl, (refl, (refl, tt))), ((refl, refl, refl, refl, refl, tt), tt))))));
+        leads = leads_all apart_program (opening apart_program) main_first (
+          (refl, refl, refl, refl, refl, (refl, refl, refl)),
+          (
+            (refl, refl, refl, refl, refl, tt),
+            (
+              (refl, refl, refl, refl, refl, tt),
+              ((refl, refl, refl, refl, refl, tt), ((refl, refl, refl, refl, refl, (refl, (refl, tt))), ((refl, refl, refl, refl, refl, tt), tt))),
+            ),
+          ),
+        );
         ended = (refl, (refl, tt));
         cells_are = refl;
       };

@@ -10,15 +10,31 @@ returns c =
     record {
       first = record {
         machine = machine_after spawn_program (opening spawn_program) spawn_history;
-        leads = leads_all spawn_program (opening spawn_program) spawn_history
-            ((refl, refl, refl, refl, refl, (refl, refl, refl)), ((refl, refl, refl, refl, refl, tt), ((refl, refl, refl, refl, refl, tt), ((refl, refl, refl, refl, refl, tt), ((refl, refl, refl, refl, refl, (refl, (refl, tt))), ((refl, refl, refl, refl, refl, tt), tt))))));
+        leads = leads_all spawn_program (opening spawn_program) spawn_history (
+          (refl, refl, refl, refl, refl, (refl, refl, refl)),
+          (
+            (refl, refl, refl, refl, refl, tt),
+            (
+              (refl, refl, refl, refl, refl, tt),
+              ((refl, refl, refl, refl, refl, tt), ((refl, refl, refl, refl, refl, (refl, (refl, tt))), ((refl, refl, refl, refl, refl, tt), tt))),
+            ),
+          ),
+        );
         ended = (refl, (refl, tt));
         cells_are = refl;
       };
       other = record {
         machine = machine_after spawn_program (opening spawn_program) main_first_to_one_cell;
-        leads = leads_all spawn_program (opening spawn_program) main_first_to_one_cell
-            ((refl, refl, refl, refl, refl, (refl, refl, refl)), ((refl, refl, refl, refl, refl, tt), ((refl, refl, refl, refl, refl, tt), ((refl, refl, refl, refl, refl, tt), ((refl, refl, refl, refl, refl, (refl, (refl, tt))), ((refl, refl, refl, refl, refl, tt), tt))))));
+        leads = leads_all spawn_program (opening spawn_program) main_first_to_one_cell (
+          (refl, refl, refl, refl, refl, (refl, refl, refl)),
+          (
+            (refl, refl, refl, refl, refl, tt),
+            (
+              (refl, refl, refl, refl, refl, tt),
+              ((refl, refl, refl, refl, refl, tt), ((refl, refl, refl, refl, refl, (refl, (refl, tt))), ((refl, refl, refl, refl, refl, tt), tt))),
+            ),
+          ),
+        );
         ended = (refl, (refl, tt));
         cells_are = refl;
       };

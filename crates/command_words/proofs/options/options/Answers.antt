@@ -12,7 +12,8 @@ not_zero : (n : ℕ) → false ≡ (n == 0) → n ≡ 0 → ⊥
 not_zero n e z = let yes : (n == 0) ≡ true = (Decides-eqb n 0).1 z in let both : true ≡ false = sym yes ∙ sym e in cc
 
 pub loop-rest-init : goal.loop-rest-init
-loop-rest-init c = record { done = []; written = refl; allowed = tt; seen_is = subst (λ n. IsSeen n [] c.nothing-seen.result) c.unnamed.ensures c.nothing-seen.ensures }
+loop-rest-init c =
+    record { done = []; written = refl; allowed = tt; seen_is = subst (λ n. IsSeen n [] c.nothing-seen.result) c.unnamed.ensures c.nothing-seen.ensures }
 
 pub returns-in_err-choice : goal.returns-in_err-choice
 returns-in_err-choice c =

@@ -10,5 +10,10 @@ returns-in_err-side c = rw c.from_residual-in_err-side.ensures (no_load _ _ _ _ 
 
 pub returns : goal.returns
 returns c =
-    let seen = c.in_ok-seen.seen in
-    (c.in_ok-side.side, seen.bound, seen.crew, refl, load_with (map string_bytes c.args.rest.now) seen.bound seen.brief seen.crew seen.side c.in_ok-side.side c.in_ok-side.was c.in_ok-seen.ensures)
+    let seen = c.in_ok-seen.seen in (
+      c.in_ok-side.side,
+      seen.bound,
+      seen.crew,
+      refl,
+      load_with (map string_bytes c.args.rest.now) seen.bound seen.brief seen.crew seen.side c.in_ok-side.side c.in_ok-side.was c.in_ok-seen.ensures,
+    )

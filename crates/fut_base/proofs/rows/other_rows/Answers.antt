@@ -12,7 +12,8 @@ apart (inr r) = not_reached (edges_of future_run) (λ x. x == 3) 3 1 refl refl r
 
 pub returns : goal.returns
 returns c = record {
-  after_sync = joined_no_race _ 0 1 4 (ev 1 1 (Writes 0 (pos 1))) (ev 0 3 (Writes 0 (pos 2))) refl refl (inl ((1, 3) ∷ [], (inr (inr (inr (inl refl))), refl, refl)));
+  after_sync = joined_no_race _ 0 1 4 (ev 1 1 (Writes 0 (pos 1))) (ev 0 3 (Writes 0 (pos 2))) refl refl
+      (inl ((1, 3) ∷ [], (inr (inr (inr (inl refl))), refl, refl)));
   future = record {
     order = lit< tt;
     events = (

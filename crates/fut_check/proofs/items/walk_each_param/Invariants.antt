@@ -13,6 +13,8 @@ invariant-loop-param l =
       found : least l.initial.search.found (params_faults (items_tree l.items) l.initial.scope.declared l.initial.search.at (params_tree l.params))
           ≡ least l.search.found (params_faults (items_tree l.items) l.scope.declared l.search.at (params_tree (drop l.param-index l.params)));
       returns : l.scope.returns ≡ l.initial.scope.returns;
-      visible : l.scope.visible ++ param_variables (params_tree (drop l.param-index l.params)) ≡ l.initial.scope.visible ++ param_variables (params_tree l.params);
-      declared : l.scope.declared ++ param_variables (params_tree (drop l.param-index l.params)) ≡ l.initial.scope.declared ++ param_variables (params_tree l.params);
+      visible : l.scope.visible ++ param_variables (params_tree (drop l.param-index l.params))
+          ≡ l.initial.scope.visible ++ param_variables (params_tree l.params);
+      declared : l.scope.declared ++ param_variables (params_tree (drop l.param-index l.params))
+          ≡ l.initial.scope.declared ++ param_variables (params_tree l.params);
     }

@@ -23,7 +23,8 @@ loop-place-preserved c =
     items_taken xs i c.index-items-place.result (omega arith) c.index-items-place.is
     in
     let walked = c.in_ok-walk_item.ensures in
-    let counts : AreCounts (items_tree (take i c.args.items.now) ++ item_tree c.index-items-place.result ∷ []) c.count-counts.result = c.count-counts.ensures before c.loop-place.invariant.counts in
+    let counts : AreCounts (items_tree (take i c.args.items.now) ++ item_tree c.index-items-place.result ∷ []) c.count-counts.result =
+    c.count-counts.ensures before c.loop-place.invariant.counts in
     record {
       end = walked.end ∙ c.loop-place.invariant.end;
       at = omega (arith, ap items_width left, walked.at);

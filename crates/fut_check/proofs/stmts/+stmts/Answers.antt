@@ -16,41 +16,49 @@ use Rattle.fut_check.proofs.stmts.+stmts.Goals as goal
 pub walk_stmt-walk_block-requires : goal.walk_stmt-walk_block-requires
 walk_stmt-walk_block-requires t c =
     let is : stmt_tree c.args.stmt.now ≡ trees.If' (expr_tree c.in-If.test) (block_tree c.as_slice-in-If.result.now) (tail_tree c.in-If.tail) =
-    ap stmt_tree (c.in-If.is ∙ ap (λ b. If c.in-If.test b c.in-If.tail) (sym c.as_slice-in-If.ensures)) ∙ if_tree c.in-If.test c.as_slice-in-If.result.now c.in-If.tail
+    ap stmt_tree (c.in-If.is ∙ ap (λ b. If c.in-If.test b c.in-If.tail) (sym c.as_slice-in-If.ensures))
+    ∙ if_tree c.in-If.test c.as_slice-in-If.result.now c.in-If.tail
     in (search (rules, the_lemmas), omega (arith, ap stmt_width is))
 
 pub walk_stmt-skip-requires-in-If : goal.walk_stmt-skip-requires-in-If
 walk_stmt-skip-requires-in-If t c =
     let is : stmt_tree c.args.stmt.now ≡ trees.If' (expr_tree c.in-If.test) (block_tree c.as_slice-in-If.result.now) (tail_tree c.in-If.tail) =
-    ap stmt_tree (c.in-If.is ∙ ap (λ b. If c.in-If.test b c.in-If.tail) (sym c.as_slice-in-If.ensures)) ∙ if_tree c.in-If.test c.as_slice-in-If.result.now c.in-If.tail
+    ap stmt_tree (c.in-If.is ∙ ap (λ b. If c.in-If.test b c.in-If.tail) (sym c.as_slice-in-If.ensures))
+    ∙ if_tree c.in-If.test c.as_slice-in-If.result.now c.in-If.tail
     in omega (arith, ap stmt_width is, c.in_ok-walk_block-in-If.ensures.walked.at, c.in_ok-walk_block-in-If.ensures.walked.end)
 
 pub walk_stmt-walk_tail-requires : goal.walk_stmt-walk_tail-requires
 walk_stmt-walk_tail-requires t c =
     let is : stmt_tree c.args.stmt.now ≡ trees.If' (expr_tree c.in-If.test) (block_tree c.as_slice-in-If.result.now) (tail_tree c.in-If.tail) =
-    ap stmt_tree (c.in-If.is ∙ ap (λ b. If c.in-If.test b c.in-If.tail) (sym c.as_slice-in-If.ensures)) ∙ if_tree c.in-If.test c.as_slice-in-If.result.now c.in-If.tail
+    ap stmt_tree (c.in-If.is ∙ ap (λ b. If c.in-If.test b c.in-If.tail) (sym c.as_slice-in-If.ensures))
+    ∙ if_tree c.in-If.test c.as_slice-in-If.result.now c.in-If.tail
     in (search (rules, the_lemmas), omega (arith, ap stmt_width is, c.in_ok-walk_block-in-If.ensures.walked.at, c.in_ok-walk_block-in-If.ensures.walked.end))
 
 pub walk_stmt-walk_block-requires-in-While : goal.walk_stmt-walk_block-requires-in-While
 walk_stmt-walk_block-requires-in-While t c =
     let is : stmt_tree c.args.stmt.now ≡ trees.While' (expr_tree c.in-While.test) (block_tree c.as_slice-in-While.result.now) =
-    ap stmt_tree (c.in-While.is ∙ ap (λ b. While c.in-While.test b) (sym c.as_slice-in-While.ensures)) ∙ while_tree c.in-While.test c.as_slice-in-While.result.now
+    ap stmt_tree (c.in-While.is ∙ ap (λ b. While c.in-While.test b) (sym c.as_slice-in-While.ensures))
+    ∙ while_tree c.in-While.test c.as_slice-in-While.result.now
     in (search (rules, the_lemmas), omega (arith, ap stmt_width is))
 
 pub walk_stmt-skip-requires-in-While : goal.walk_stmt-skip-requires-in-While
 walk_stmt-skip-requires-in-While t c =
     let is : stmt_tree c.args.stmt.now ≡ trees.While' (expr_tree c.in-While.test) (block_tree c.as_slice-in-While.result.now) =
-    ap stmt_tree (c.in-While.is ∙ ap (λ b. While c.in-While.test b) (sym c.as_slice-in-While.ensures)) ∙ while_tree c.in-While.test c.as_slice-in-While.result.now
+    ap stmt_tree (c.in-While.is ∙ ap (λ b. While c.in-While.test b) (sym c.as_slice-in-While.ensures))
+    ∙ while_tree c.in-While.test c.as_slice-in-While.result.now
     in omega (arith, ap stmt_width is, c.in_ok-walk_block-in-While.ensures.walked.at, c.in_ok-walk_block-in-While.ensures.walked.end)
 
 pub walk_stmt-returns-in_ok-walk_block-in-While : goal.walk_stmt-returns-in_ok-walk_block-in-While
 walk_stmt-returns-in_ok-walk_block-in-While t c =
     let is : stmt_tree c.args.stmt.now ≡ trees.While' (expr_tree c.in-While.test) (block_tree c.as_slice-in-While.result.now) =
-    ap stmt_tree (c.in-While.is ∙ ap (λ b. While c.in-While.test b) (sym c.as_slice-in-While.ensures)) ∙ while_tree c.in-While.test c.as_slice-in-While.result.now
+    ap stmt_tree (c.in-While.is ∙ ap (λ b. While c.in-While.test b) (sym c.as_slice-in-While.ensures))
+    ∙ while_tree c.in-While.test c.as_slice-in-While.result.now
     in
     let g = items_tree c.args.items.now in
     let s = c.args.scope.now in
-    subst (λ (x : trees.Stmt). Passed c.args.search.now c.skip-in-While.new.self (stmt_width x) (stmt_faults g s c.args.search.now.at x) c.walk_block-in-While.new.scope (scope_after s x)) (sym is)
+    subst
+    (λ (x : trees.Stmt). Passed c.args.search.now c.skip-in-While.new.self (stmt_width x)
+    (stmt_faults g s c.args.search.now.at x) c.walk_block-in-While.new.scope (scope_after s x)) (sym is)
     (while_passed g s _ _ _ _ _ _ _ c.walk_test-in-While.ensures c.in_ok-walk_block-in-While.ensures c.skip-in-While.ensures)
 
 pub walk_tail-walk_block-requires : goal.walk_tail-walk_block-requires
@@ -72,17 +80,22 @@ walk_tail-returns-in_ok-walk_block-in-Else t c =
     in
     let g = items_tree c.args.items.now in
     let s = c.args.scope.now in
-    subst (λ (x : trees.Tail). Passed c.args.search.now c.skip-in-Else.new.self (tail_width x) (tail_faults g s c.args.search.now.at x) c.walk_block.new.scope (with_declared s (declared_in_tail x))) (sym is)
+    subst
+    (λ (x : trees.Tail). Passed c.args.search.now c.skip-in-Else.new.self (tail_width x) (tail_faults g s c.args.search.now.at x) c.walk_block.new.scope
+    (with_declared s (declared_in_tail x))) (sym is)
     (else_passed g s _ _ _ _ _ _ c.skip.ensures c.in_ok-walk_block-in-Else.ensures c.skip-in-Else.ensures)
 
 pub walk_stmt-returns-in_ok-walk_tail-in-If : goal.walk_stmt-returns-in_ok-walk_tail-in-If
 walk_stmt-returns-in_ok-walk_tail-in-If t c =
     let is : stmt_tree c.args.stmt.now ≡ trees.If' (expr_tree c.in-If.test) (block_tree c.as_slice-in-If.result.now) (tail_tree c.in-If.tail) =
-    ap stmt_tree (c.in-If.is ∙ ap (λ b. If c.in-If.test b c.in-If.tail) (sym c.as_slice-in-If.ensures)) ∙ if_tree c.in-If.test c.as_slice-in-If.result.now c.in-If.tail
+    ap stmt_tree (c.in-If.is ∙ ap (λ b. If c.in-If.test b c.in-If.tail) (sym c.as_slice-in-If.ensures))
+    ∙ if_tree c.in-If.test c.as_slice-in-If.result.now c.in-If.tail
     in
     let g = items_tree c.args.items.now in
     let s = c.args.scope.now in
-    subst (λ (x : trees.Stmt). Passed c.args.search.now c.walk_tail.new.search (stmt_width x) (stmt_faults g s c.args.search.now.at x) c.walk_tail.new.scope (scope_after s x)) (sym is)
+    subst
+    (λ (x : trees.Stmt). Passed c.args.search.now c.walk_tail.new.search (stmt_width x) (stmt_faults g s c.args.search.now.at x) c.walk_tail.new.scope
+    (scope_after s x)) (sym is)
     (if_passed g s _ _ _ _ _ _ _ _ _ _ c.walk_test.ensures c.in_ok-walk_block-in-If.ensures c.skip-in-If.ensures c.in_ok-walk_tail-in-If.ensures)
 
 pub walk_block-loop-stmt-preserved : goal.walk_block-loop-stmt-preserved

@@ -13,7 +13,8 @@ invariant-walk_block-loop-stmt l =
       found : least l.initial.search.found (block_faults (items_tree l.items) l.initial.scope l.initial.search.at (block_tree l.stmts))
           ≡ least l.search.found (block_faults (items_tree l.items) l.scope l.search.at (block_tree (drop l.stmt-index l.stmts)));
       returns : l.scope.returns ≡ l.initial.scope.returns;
-      declared : l.scope.declared ++ declared_in_block (block_tree (drop l.stmt-index l.stmts)) ≡ l.initial.scope.declared ++ declared_in_block (block_tree l.stmts);
+      declared : l.scope.declared ++ declared_in_block (block_tree (drop l.stmt-index l.stmts))
+          ≡ l.initial.scope.declared ++ declared_in_block (block_tree l.stmts);
       visible : take (length l.initial.scope.visible) l.scope.visible ≡ l.initial.scope.visible;
       count : length l.initial.scope.visible ≤ length l.scope.visible;
     }

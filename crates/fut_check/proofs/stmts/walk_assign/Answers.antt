@@ -7,4 +7,5 @@ use Rattle.fut_check.proofs.stmts.walk_assign.Goals as goal
 pub returns : goal.returns
 returns c =
     walked_as (walked_past (walked_both c.note_assigned.ensures (past_walked c.skip.ensures c.walk_init.ensures)) c.skip-2.ensures) (omega arith)
-    (assign_faults (items_tree c.args.items.now) c.args.scope.now c.args.search.now.at c.args.word.now (init_tree c.args.value.now) _ _ _ c.visible.ensures (omega arith) c.variable_need.ensures)
+    (assign_faults (items_tree c.args.items.now) c.args.scope.now c.args.search.now.at c.args.word.now (init_tree c.args.value.now) _ _ _ c.visible.ensures
+    (omega arith) c.variable_need.ensures)

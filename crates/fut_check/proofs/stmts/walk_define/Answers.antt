@@ -13,5 +13,6 @@ returns c =
     (past_walked c.skip-3.ensures c.walk_init.ensures))
     c.skip-4.ensures)
     (omega arith)
-    (define_faults (items_tree c.args.items.now) c.args.scope.now c.args.search.now.at c.args.word.now (type_tree c.args.written.now) (init_tree c.args.value.now)
+    (define_faults (items_tree c.args.items.now) c.args.scope.now c.args.search.now.at c.args.word.now (type_tree c.args.written.now)
+    (init_tree c.args.value.now)
     _ _ _ _ _ _ c.kind_of-kind.ensures c.visible.ensures (omega arith) (omega arith) (omega arith) c.init_need.ensures)

@@ -19,7 +19,20 @@ loop-bytes-preserved g c =
       whole = kept.whole;
       short =
           let size = ap length more.1 ∙ length-append c.loop-bytes.bytes.items more.0 in
-          omega (arith, size, more.3, c.take_onto.auto.buffer, length-take {A = ℕ}, c.min-room.ensures, c.take_onto.new.bytes.ok.0, c.loop-bytes.bytes.ok.0, c.deref_mut.ensures.len, kept.whole, kept.short, c.len-in-loop-bytes.ensures);
+          omega (
+            arith,
+            size,
+            more.3,
+            c.take_onto.auto.buffer,
+            length-take {A = ℕ},
+            c.min-room.ensures,
+            c.take_onto.new.bytes.ok.0,
+            c.loop-bytes.bytes.ok.0,
+            c.deref_mut.ensures.len,
+            kept.whole,
+            kept.short,
+            c.len-in-loop-bytes.ensures,
+          );
       taken = rw more.1 (consumes_both _ _ _ c.loop-bytes.bytes.items more.0 kept.taken more.4);
       quiet = more.5 ∙ kept.quiet;
     }
@@ -27,5 +40,10 @@ loop-bytes-preserved g c =
 pub returns-in-End : goal.returns-in-End
 returns-in-End g c =
     let kept = c.loop-bytes.invariant in
-    let end = c.in-End.ensures in
-    (omega (arith, ap length end.0, c.loop-bytes.bytes.ok.0, c.loop-bytes-test.true, c.len.ensures), rw end.0 (consumes_keeps _ _ _ c.loop-bytes.bytes.items kept.taken end.1), end.2, end.3, end.4 ∙ kept.quiet)
+    let end = c.in-End.ensures in (
+      omega (arith, ap length end.0, c.loop-bytes.bytes.ok.0, c.loop-bytes-test.true, c.len.ensures),
+      rw end.0 (consumes_keeps _ _ _ c.loop-bytes.bytes.items kept.taken end.1),
+      end.2,
+      end.3,
+      end.4 ∙ kept.quiet,
+    )

@@ -12,4 +12,6 @@ prepared-requires-clause-bounded g c = bounded c.args.may_run c.args.words.now c
 pub returns-in-Whole-clause-usage : goal.returns-in-Whole-clause-usage
 returns-in-Whole-clause-usage g c = λ usage.
     let whole = c.in-Whole.ensures.input in
-    absurd (no_usage c.args.may_run c.args.words.now c.in-Some.command c.in-Whole.bytes.items c.prepared.result c.in-Some.ensures whole.0 (untold c.in-Some.command _ _ _ c.in-Whole.bytes.items whole.1) c.prepared.ensures usage)
+    absurd
+    (no_usage c.args.may_run c.args.words.now c.in-Some.command c.in-Whole.bytes.items c.prepared.result c.in-Some.ensures whole.0
+    (untold c.in-Some.command _ _ _ c.in-Whole.bytes.items whole.1) c.prepared.ensures usage)

@@ -11,7 +11,8 @@ returns-in-Ok-legal_line c = λ a words read.
     let run = c.args.run in
     let P = c.requires.program.0 in
     let typed = c.requires.program.1 in
-    let of : IsRecordOf c.args.bytes.now P (events_of run.history) run.races.items run.finish = record { program = run.program.items; record_is = c.requires.record; typed = typed } in
+    let of : IsRecordOf c.args.bytes.now P (events_of run.history) run.races.items run.finish =
+    record { program = run.program.items; record_is = c.requires.record; typed = typed } in
     let accepted = c.in-Ok.ensures P typed.well_typed c.requires.program.2 in
     let count = c.len.ensures ∙ sym (length-map run.history.items event_of) in
     let due = c.in-Ok-legal_line.ensures ∙ (ap (λ n. legal_text n c.len-2.result) count ∙ ap (legal_text (length (events_of run.history))) c.len-2.ensures) in

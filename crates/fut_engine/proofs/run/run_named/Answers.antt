@@ -9,4 +9,7 @@ use Rattle.fut_engine.proofs.run.run_named.Goals as goal
 
 pub returns-clause-run : goal.returns-clause-run
 returns-clause-run g c =
-    subst (λ k. IfOk c.rest.result (λ ran. (P : tree.Program) → IsWellTyped P → IsCodeOf P c.args.code.now → IsRun P k (events_of ran.history) ran.finish ran.cells.items)) (sym c.requires.limits) c.rest.ensures.run
+    subst
+    (λ k. IfOk c.rest.result
+    (λ ran. (P : tree.Program) → IsWellTyped P → IsCodeOf P c.args.code.now → IsRun P k (events_of ran.history) ran.finish ran.cells.items))
+    (sym c.requires.limits) c.rest.ensures.run

@@ -12,4 +12,6 @@ pub put_primary-returns-in-Bracket : goal.put_primary-returns-in-Bracket
 put_primary-returns-in-Bracket n c =
     let same : primary_tree c.args.tree.now ≡ Bracket (expr_tree c.get.result.now) =
     ap primary_tree c.in-Bracket.is ∙ bracket_tree c.in-Bracket.inside ∙ ap (λ (e : Expr). Bracket (expr_tree e)) (sym c.get.ensures) in
-    on_ok_weaker c.put_bracket.result (wrote_as primary_before c.args.out.now.items c.put_bracket.new.out.items (Bracket (expr_tree c.get.result.now)) (primary_tree c.args.tree.now) (sym same)) c.put_bracket.ensures
+    on_ok_weaker c.put_bracket.result
+    (wrote_as primary_before c.args.out.now.items c.put_bracket.new.out.items (Bracket (expr_tree c.get.result.now)) (primary_tree c.args.tree.now)
+    (sym same)) c.put_bracket.ensures

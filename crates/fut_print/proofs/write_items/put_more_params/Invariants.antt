@@ -5,4 +5,5 @@ use Rattle.fut_syntax.specs.Views.{params_tree}
 use Rattle.fut_print.proofs.write_items.put_more_params.Given as goal
 
 abbrev pub invariant-loop-param : goal.invariant-loop-param
-invariant-loop-param l = (r : List Token) → l.out.items ++ more_params_before (params_tree (drop l.param-index l.given)) r ≡ l.fn.out.items ++ more_params_before (params_tree l.given) r
+invariant-loop-param l = (r : List Token) → l.out.items ++ more_params_before (params_tree (drop l.param-index l.given)) r
+    ≡ l.fn.out.items ++ more_params_before (params_tree l.given) r

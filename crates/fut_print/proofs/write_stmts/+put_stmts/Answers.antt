@@ -19,7 +19,8 @@ put_stmt-returns-in_ok-put_block-in-If n c =
     wrote_as stmt_before c.args.out.now.items c.put_tail.new.out.items made (stmt_tree c.args.tree.now) (sym same)
     (then_wrote c.args.out.now.items c.put_block.new.out.items c.put_tail.new.out.items
     (then_wrote c.args.out.now.items c.put_expr.new.out.items c.put_block.new.out.items
-    (then_wrote c.args.out.now.items c.put-in-If.new.out.items c.put_expr.new.out.items c.in_ok-put-in-If.ensures c.in_ok-put_expr-in-If.ensures) c.in_ok-put_block-in-If.ensures) last))
+    (then_wrote c.args.out.now.items c.put-in-If.new.out.items c.put_expr.new.out.items c.in_ok-put-in-If.ensures c.in_ok-put_expr-in-If.ensures)
+    c.in_ok-put_block-in-If.ensures) last))
     c.put_tail.ensures
 
 pub put_stmt-returns-in_ok-put_expr-in-While : goal.put_stmt-returns-in_ok-put_expr-in-While
@@ -30,7 +31,8 @@ put_stmt-returns-in_ok-put_expr-in-While n c =
     (λ last.
     wrote_as stmt_before c.args.out.now.items c.put_block-in-While.new.out.items made (stmt_tree c.args.tree.now) (sym same)
     (then_wrote c.args.out.now.items c.put_expr-in-While.new.out.items c.put_block-in-While.new.out.items
-    (then_wrote c.args.out.now.items c.put-in-While.new.out.items c.put_expr-in-While.new.out.items c.in_ok-put-in-While.ensures c.in_ok-put_expr-in-While.ensures) last))
+    (then_wrote c.args.out.now.items c.put-in-While.new.out.items c.put_expr-in-While.new.out.items c.in_ok-put-in-While.ensures
+    c.in_ok-put_expr-in-While.ensures) last))
     c.put_block-in-While.ensures
 
 pub put_tail-returns-in_ok-put-in-Else : goal.put_tail-returns-in_ok-put-in-Else
@@ -48,5 +50,6 @@ put_block-returns n c =
     on_ok_weaker c.put-2.result
     (λ last.
     subst (λ (b : List Stmt). Wrote c.args.out.now.items c.put-2.new.out.items (λ r. t.LeftBrace ∷ block_before (block_tree b) r)) c.as_slice-stmt-items.ensures
-    (block_done c.loop-stmt.stmt-index c.as_slice-stmt-items.result.now c.loop-stmt.out.items c.args.out.now.items c.put-2.new.out.items c.loop-stmt-test.false c.loop-stmt.invariant last))
+    (block_done c.loop-stmt.stmt-index c.as_slice-stmt-items.result.now c.loop-stmt.out.items c.args.out.now.items c.put-2.new.out.items
+    c.loop-stmt-test.false c.loop-stmt.invariant last))
     c.put-2.ensures

@@ -7,4 +7,5 @@ use Rattle.fut_print.proofs.write_stmts.+put_stmts.Given as goal
 
 abbrev pub invariant-put_block-loop-stmt : goal.invariant-put_block-loop-stmt
 invariant-put_block-loop-stmt l =
-    (r : List Token) → l.out.items ++ block_before (block_tree (drop l.stmt-index l.stmt-items)) r ≡ l.fn.out.items ++ t.LeftBrace ∷ block_before (block_tree l.stmt-items) r
+    (r : List Token) → l.out.items ++ block_before (block_tree (drop l.stmt-index l.stmt-items)) r
+    ≡ l.fn.out.items ++ t.LeftBrace ∷ block_before (block_tree l.stmt-items) r

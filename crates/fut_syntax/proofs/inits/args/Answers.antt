@@ -17,11 +17,14 @@ pub returns-in-RightParen-peek : goal.returns-in-RightParen-peek
 returns-in-RightParen-peek c =
     let low : c.args.depth ≡ (c.args.depth - 1) + 1 = omega (arith, c.requires.low) in
     let front = (seen c.peek-in-more.ensures.front c.in-RightParen-peek.is) ∙ ap (λ q. t.RightParen ∷ q) (sym c.bump-in-RightParen-peek.ensures) in (
-      after c.more.invariant.goes (takes_close ArgsTail t.RightParen [] (c.args.depth - 1) c.args.depth c.more.cursor c.bump-in-RightParen-peek.new.self refl refl refl low front),
+      after c.more.invariant.goes
+          (takes_close ArgsTail t.RightParen [] (c.args.depth - 1) c.args.depth c.more.cursor c.bump-in-RightParen-peek.new.self refl refl refl low front),
       c.more.invariant.tokens [] c.bump-in-RightParen-peek.new.self front
-          ∙ ap (λ (es : List Expr). args_before es c.bump-in-RightParen-peek.new.self) (append-nil (args_tree c.more.all.items) ∙ ap args_tree (sym c.from_vec.ensures)),
+          ∙ ap (λ (es : List Expr). args_before es c.bump-in-RightParen-peek.new.self)
+          (append-nil (args_tree c.more.all.items) ∙ ap args_tree (sym c.from_vec.ensures)),
     )
 
 pub more-smaller : goal.more-smaller
 more-smaller c =
-    fewer c.more.cursor c.bump-in-Comma.new.self c.expr-in-more.new.cursor t.Comma (expr_tree c.in_ok-next.next) (seen c.peek-in-more.ensures.front c.in-Comma.is) c.bump-in-Comma.ensures c.in_ok-next.ensures.1
+    fewer c.more.cursor c.bump-in-Comma.new.self c.expr-in-more.new.cursor t.Comma (expr_tree c.in_ok-next.next)
+    (seen c.peek-in-more.ensures.front c.in-Comma.is) c.bump-in-Comma.ensures c.in_ok-next.ensures.1

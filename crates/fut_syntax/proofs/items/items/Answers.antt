@@ -11,7 +11,8 @@ use Rattle.fut_syntax.proofs.items.items.Goals as goal
 pub returns-in-End : goal.returns-in-End
 returns-in-End c =
     let last : c.more.cursor ≡ t.End ∷ [] = (seen c.peek.ensures.front c.in-End.is) ∙ ap (λ q. t.End ∷ q) (c.peek.ensures.last (ap is_end c.in-End.is)) in (
-      subst (λ (is : List Item). Spells c.args.cursor.now is) (sym c.from_vec.ensures) (spells_end c.args.cursor.now c.more.cursor c.more.all.items c.more.invariant.tokens last),
+      subst (λ (is : List Item). Spells c.args.cursor.now is) (sym c.from_vec.ensures)
+          (spells_end c.args.cursor.now c.more.cursor c.more.all.items c.more.invariant.tokens last),
       run_ends c.args.cursor.now c.more.cursor c.more.invariant.goes last,
     )
 

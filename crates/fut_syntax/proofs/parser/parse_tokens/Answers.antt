@@ -18,4 +18,7 @@ returns-in-Ok c =
 pub returns-in-Err-Fault : goal.returns-in-Err-Fault
 returns-in-Err-Fault c =
     subst (λ (q : List Token). IsFault q c.behind.result) c.new-cursor.ensures
-    (answer_fault c.new-cursor.result c.items.new.cursor c.behind.result (subst (λ (e : Stop). Stops (First ∷ []) 0 c.new-cursor.result c.items.new.cursor e) c.in-Err-Fault.field-0-is c.in-Err-Fault.ensures) c.behind.ensures.one c.behind.ensures.count)
+    (answer_fault c.new-cursor.result c.items.new.cursor c.behind.result
+    (subst
+    (λ (e : Stop). Stops
+    (First ∷ []) 0 c.new-cursor.result c.items.new.cursor e) c.in-Err-Fault.field-0-is c.in-Err-Fault.ensures) c.behind.ensures.one c.behind.ensures.count)

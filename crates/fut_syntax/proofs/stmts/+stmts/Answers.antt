@@ -14,7 +14,8 @@ use Rattle.fut_syntax.proofs.stmts.+stmts.Goals as goal
 pub block-returns-in-RightBrace : goal.block-returns-in-RightBrace
 block-returns-in-RightBrace n c =
     let front = (seen c.peek-in-stmts.ensures.front c.in-RightBrace.is) ∙ ap (λ q. t.RightBrace ∷ q) (sym c.bump.ensures) in (
-      after c.stmts.invariant.goes (takes_close Stmts t.RightBrace [] c.args.depth c.in_ok-inner.inner c.stmts.cursor c.bump.new.self refl refl refl c.stmts.invariant.deeper front),
+      after c.stmts.invariant.goes
+          (takes_close Stmts t.RightBrace [] c.args.depth c.in_ok-inner.inner c.stmts.cursor c.bump.new.self refl refl refl c.stmts.invariant.deeper front),
       c.stmts.invariant.tokens Done c.bump.new.self front
           ∙ ap (λ (b : Block). braced b c.bump.new.self) (joined_done c.stmts.all.items ∙ ap block_tree (sym c.from_vec.ensures)),
     )
@@ -32,6 +33,7 @@ block-stmts-preserved n c =
       deeper = c.stmts.invariant.deeper;
       high = c.stmts.invariant.high;
       tokens = λ rest r e.
-          c.stmts.invariant.tokens (Then (stmt_tree c.in_ok-next.next) rest) r (c.in_ok-next.ensures.1 ∙ ap (λ q. stmt_before (stmt_tree c.in_ok-next.next) q) e)
+          c.stmts.invariant.tokens (Then (stmt_tree c.in_ok-next.next) rest) r
+          (c.in_ok-next.ensures.1 ∙ ap (λ q. stmt_before (stmt_tree c.in_ok-next.next) q) e)
           ∙ ap (λ (b : Block). braced b r) (sym (joined_more c.stmts.all.items c.in_ok-next.next rest) ∙ sym (ap (λ q. joined q rest) items));
     }

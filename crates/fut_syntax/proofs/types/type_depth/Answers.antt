@@ -18,5 +18,6 @@ pub returns-in-Int : goal.returns-in-Int
 returns-in-Int c =
     let front = (seen c.peek.ensures.front c.in-Int.is) ∙ ap (λ q. t.Int ∷ q) (sym c.bump-in-Int.ensures) in (
       record { goes = λ d k. c.futs.invariant.goes d k ∙ (takes Type' t.Int [] d c.futs.cursor c.bump-in-Int.new.self refl refl refl front).goes k },
-      int_last c.behind-left.result (c.behind-left.result - c.behind.result) c.args.cursor.now c.futs.cursor c.bump-in-Int.new.self front (omega (arith, c.behind.ensures.count)) c.futs.invariant.tokens,
+      int_last c.behind-left.result (c.behind-left.result - c.behind.result) c.args.cursor.now c.futs.cursor c.bump-in-Int.new.self front
+          (omega (arith, c.behind.ensures.count)) c.futs.invariant.tokens,
     )

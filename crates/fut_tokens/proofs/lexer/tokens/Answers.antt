@@ -21,11 +21,20 @@ loop-at-preserved c =
     record {
       within = omega (arith, p.within, length-drop c.loop-at.at text);
       here = c.place_at-place.ensures;
-      begun = begun_on text c.loop-at.at n x c.loop-at.place c.loop-at.lexed.tokens.items c.take.new.self.tokens.items c.loop-at.lexed.places.items c.take.new.self.places.items c.loop-at.lexed.comments c.take.new.self.comments p c.loop-at.invariant.begun c.loop-at.invariant.here c.in_ok-take.ensures.tokens c.in_ok-take.ensures.places c.in_ok-take.ensures.comments;
+      begun =
+          begun_on text c.loop-at.at n x c.loop-at.place c.loop-at.lexed.tokens.items c.take.new.self.tokens.items c.loop-at.lexed.places.items
+          c.take.new.self.places.items c.loop-at.lexed.comments c.take.new.self.comments p c.loop-at.invariant.begun c.loop-at.invariant.here
+          c.in_ok-take.ensures.tokens c.in_ok-take.ensures.places c.in_ok-take.ensures.comments;
     }
 
 whole : (c : In_ok-add) → IsWhole c.args.text.now c.add.new.self.tokens.items c.add.new.self.places.items c.add.new.self.comments
-whole c = begun_end c.args.text.now c.loop-at.at c.loop-at.place c.loop-at.lexed.tokens.items c.add.new.self.tokens.items c.loop-at.lexed.places.items c.add.new.self.places.items c.loop-at.lexed.comments c.add.new.self.comments (omega (arith, c.loop-at-test.false)) c.loop-at.invariant.begun c.loop-at.invariant.here c.in_ok-add.ensures.tokens c.in_ok-add.ensures.places c.in_ok-add.ensures.comments
+whole c =
+    begun_end c.args.text.now c.loop-at.at c.loop-at.place c.loop-at.lexed.tokens.items c.add.new.self.tokens.items c.loop-at.lexed.places.items
+    c.add.new.self.places.items c.loop-at.lexed.comments c.add.new.self.comments
+    (omega (
+      arith,
+      c.loop-at-test.false,
+    )) c.loop-at.invariant.begun c.loop-at.invariant.here c.in_ok-add.ensures.tokens c.in_ok-add.ensures.places c.in_ok-add.ensures.comments
 
 pub returns-clause-tokens : goal.returns-clause-tokens
 returns-clause-tokens c = (whole c).of

@@ -27,7 +27,8 @@ not_none v h = cc
 not_legal : IsLegal ended_program ended_trace → ⊥
 not_legal (m, (n, first, (k, second, rest))) =
     let gone : acted first.task first.stop (Ends (Int (pos 0))) ≡ second.task =
-    same_Some (acted first.task first.stop (Ends (Int (pos 0)))) second.task (sym (acting_task ended_program _ (ev 0 0 (Ends (Int (pos 0)))) n first) ∙ second.present) in
+    same_Some (acted first.task first.stop (Ends (Int (pos 0)))) second.task
+    (sym (acting_task ended_program _ (ev 0 0 (Ends (Int (pos 0)))) n first) ∙ second.present) in
     not_none (Int (pos 0)) (ap (λ (r : Running). r.value) gone ∙ second.running)
 
 pub returns : goal.returns

@@ -147,7 +147,13 @@ run : IsSharedRun read_program 6 place book shards traces
 run =
     record {
       tickets = (log_is_shared 3 read_log of_three).0;
-      sound = ((((tt, record { stands = refl; running = refl; acts = (refl, refl, refl, tt) }), record { stands = refl; running = refl; acts = (refl, tt) }), record { stands = refl; running = refl; acts = (refl, (refl, tt)) }), record { stands = refl; running = refl; acts = (refl, tt) });
+      sound = (
+        (
+          ((tt, record { stands = refl; running = refl; acts = (refl, refl, refl, tt) }), record { stands = refl; running = refl; acts = (refl, tt) }),
+          record { stands = refl; running = refl; acts = (refl, (refl, tt)) },
+        ),
+        record { stands = refl; running = refl; acts = (refl, tt) },
+      );
       shared = record { accesses = accesses; reads = reads };
       tasks = tasks;
       whole = whole;

@@ -5,7 +5,7 @@ use Rattle.race_finder.proofs.forks.create_one.Goals as goal
 
 pub returns-clause-creates : goal.returns-clause-creates
 returns-clause-creates c = λ s task code args sound orders of.
-    let d = c.args.doer.now in
+    let d = c.args.track.now in
     let kid = c.create.result.0 in
     let cont = c.create.result.1 in
     let b = c.create.ensures.belong s task code args in

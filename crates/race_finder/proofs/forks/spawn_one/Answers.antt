@@ -7,7 +7,7 @@ use Rattle.race_finder.proofs.forks.spawn_one.Goals as goal
 
 pub returns-clause-spawns : goal.returns-clause-spawns
 returns-clause-spawns c = λ s task code args sound orders of.
-    let d = c.args.doer.now in
+    let d = c.args.track.now in
     let kid = c.spawn.result.0 in
     let cont = c.spawn.result.1 in
     let b = c.spawn.ensures.belong s task code c.args.child args in

@@ -6,32 +6,32 @@ use Rattle.fut_base.specs.declared.event.Action.TheVariants.{Gets}
 use Rattle.fut_base.specs.Sound.{IsSound}
 use Rattle.reach_table.specs.Tabled.{and_then}
 use Rattle.reach_table.specs.Telling.{HasTable}
-use Rattle.race_finder.specs.declared.doer.Doer.{Doer}
+use Rattle.race_finder.specs.declared.track.Track.{Track}
 use Rattle.race_finder.proofs.Blocks.{two_known, got_table}
 use Rattle.race_finder.proofs.joins.table_after_get.Goals as goal
 
-same : {a b : Doer} → Some a ≡ Some b → a ≡ b
+same : {a b : Track} → Some a ≡ Some b → a ≡ b
 same {a} {b} e = cc
 
 pub merged-requires : goal.merged-requires
 merged-requires c =
-    let doers = c.args.doers.now in
-    let d = c.index-doers-task.result in
-    let o = c.index-doers-future.result in
+    let tracks = c.args.tracks.now in
+    let d = c.index-tracks-task.result in
+    let o = c.index-tracks-future.result in
     let some = c.requires.some in
-    two_known some.0 c.args.places.now doers c.lists.result.now some.1 c.lists.ensures.english c.lists.ensures.hebrew c.args.task c.args.future d o
-    (slice_get_read doers (length doers) c.args.task d refl c.requires.task_in c.index-doers-task.is)
-    (slice_get_read doers (length doers) c.args.future o refl c.requires.future_in c.index-doers-future.is)
+    two_known some.0 c.args.places.now tracks c.lists.result.now some.1 c.lists.ensures.english c.lists.ensures.hebrew c.args.task c.args.future d o
+    (slice_get_read tracks (length tracks) c.args.task d refl c.requires.task_in c.index-tracks-task.is)
+    (slice_get_read tracks (length tracks) c.args.future o refl c.requires.future_in c.index-tracks-future.is)
 
 pub returns : goal.returns
 returns c = IfOk-weaker c.merged.result _ _ (λ table after. λ s value strand d' of at' sound.
-    let doers = c.args.doers.now in
-    let d = c.index-doers-task.result in
-    let o = c.index-doers-future.result in
-    let at = slice_get_read doers (length doers) c.args.task d refl c.requires.task_in c.index-doers-task.is in
-    let ot = slice_get_read doers (length doers) c.args.future o refl c.requires.future_in c.index-doers-future.is in
+    let tracks = c.args.tracks.now in
+    let d = c.index-tracks-task.result in
+    let o = c.index-tracks-future.result in
+    let at = slice_get_read tracks (length tracks) c.args.task d refl c.requires.task_in c.index-tracks-task.is in
+    let ot = slice_get_read tracks (length tracks) c.args.future o refl c.requires.future_in c.index-tracks-future.is in
     let is : d ≡ d' = same (sym at ∙ at') in
-    subst (λ (x : Doer). HasTable (and_then s c.args.task x.at.number (Gets c.args.future value strand)) strand table) is
-    (got_table s c.args.places.now doers c.lists.result.now of c.lists.ensures.english c.lists.ensures.hebrew c.args.task c.args.future d o
+    subst (λ (x : Track). HasTable (and_then s c.args.task x.at.number (Gets c.args.future value strand)) strand table) is
+    (got_table s c.args.places.now tracks c.lists.result.now of c.lists.ensures.english c.lists.ensures.hebrew c.args.task c.args.future d o
     table value strand at ot after
-    (subst (λ (x : Doer). IsSound (and_then s c.args.task x.at.number (Gets c.args.future value strand))) (sym is) sound))) c.merged.ensures.after_get
+    (subst (λ (x : Track). IsSound (and_then s c.args.task x.at.number (Gets c.args.future value strand))) (sym is) sound))) c.merged.ensures.after_get

@@ -8,5 +8,5 @@ use Rattle.race_finder.proofs.joins.table_of_block.Given as goal
 
 abbrev pub invariant-loop-child : goal.invariant-loop-child
 invariant-loop-child l =
-    (s : List Event) → MaySync s l.places l.doers l.task → slice_get l.doers l.task ≡ Some l.doer
-    → IsMergedOf s l.doer.at.future (l.doer.at.number ∷ lasts_of (reverse s) (take l.child-index l.doer.block.items)) l.reach
+    (s : List Event) → MaySync s l.places l.tracks l.task → slice_get l.tracks l.task ≡ Some l.track
+    → IsMergedOf s l.track.at.future (l.track.at.number ∷ lasts_of (reverse s) (take l.child-index l.track.block.items)) l.reach

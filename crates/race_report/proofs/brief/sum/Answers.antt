@@ -15,8 +15,10 @@ loop-cell-preserved c =
     let i = c.loop-cell.cell-index in
     let rest = sum_by value (drop (i + 1) cells) in
     let here : c.bits-sum.result ≡ value (get_or cells i (pos 0)) = c.bits-sum.ensures in
-    let next : sum_by value (drop i cells) ≡ c.bits-sum.result + rest = sum_by-drop_more value cells i (pos 0) c.loop-cell-test.true ∙ ap (λ n. n + rest) (sym here) in
+    let next : sum_by value (drop i cells) ≡ c.bits-sum.result + rest =
+    sum_by-drop_more value cells i (pos 0) c.loop-cell-test.true ∙ ap (λ n. n + rest) (sym here) in
     let all = c.loop-cell.sum + c.bits-sum.result in
     let less : (all % 2 ^ 64 + rest) % 2 ^ 64 ≡ (all + rest) % 2 ^ 64 =
-    sym (add-mul-mod_self_left (all % 2 ^ 64 + rest) (2 ^ 64) (all / 2 ^ 64)) ∙ ap (λ n. n % 2 ^ 64) (parts (all % 2 ^ 64) rest (2 ^ 64 * (all / 2 ^ 64)) ∙ ap (λ n. n + rest) (mod-add-div all (2 ^ 64))) in
+    sym (add-mul-mod_self_left (all % 2 ^ 64 + rest) (2 ^ 64) (all / 2 ^ 64))
+    ∙ ap (λ n. n % 2 ^ 64) (parts (all % 2 ^ 64) rest (2 ^ 64 * (all / 2 ^ 64)) ∙ ap (λ n. n + rest) (mod-add-div all (2 ^ 64))) in
     less ∙ (ap (λ n. n % 2 ^ 64) (add_assoc c.loop-cell.sum c.bits-sum.result rest ∙ ap (λ n. c.loop-cell.sum + n) (sym next)) ∙ c.loop-cell.invariant)

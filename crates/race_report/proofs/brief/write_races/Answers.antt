@@ -8,7 +8,8 @@ pub returns-in-Failed : goal.returns-in-Failed
 returns-in-Failed g c =
     let taken = c.loop-race.invariant.taken in
     let next = at_drop_more (race_rows c.args.arrays.now) c.as_slice-races.result.now c.loop-race.race-index _ c.loop-race-test.true in
-    rw (← c.as_slice-races.ensures) (stopped_in _ _ _ _ _ _ _ taken.0 _ _ (goes_on _ taken.0 _ _ _ taken.1 next) taken.2 c.loop-race.invariant.quiet c.in-Failed.ensures)
+    rw (← c.as_slice-races.ensures)
+    (stopped_in _ _ _ _ _ _ _ taken.0 _ _ (goes_on _ taken.0 _ _ _ taken.1 next) taken.2 c.loop-race.invariant.quiet c.in-Failed.ensures)
 
 pub loop-race-preserved : goal.loop-race-preserved
 loop-race-preserved g c =

@@ -19,4 +19,5 @@ returns c =
     let whole : (q : ℕ) → IsFoundBefore h (length h) q (get nat_cmp found q) =
     subst (λ n. (q : ℕ) → IsFoundBefore h n q (get nat_cmp found q)) (sym (length-map items event_of)) known in
     let report = report_of h found c.listed.ensures.ordered whole in
-    IfOk-weaker c.listed.result (λ races. races.items ≡ values found) (λ races. IsReport h races.items) (λ races is. subst (λ l. IsReport h l) (sym is) report) c.listed.ensures.items
+    IfOk-weaker c.listed.result (λ races. races.items ≡ values found) (λ races. IsReport h races.items)
+    (λ races is. subst (λ l. IsReport h l) (sym is) report) c.listed.ensures.items

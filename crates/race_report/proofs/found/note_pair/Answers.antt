@@ -22,7 +22,8 @@ returns-in_ok-insert c =
     let race = c.in-Some.race in
     let last : IsLastPair h c.args.place (Some race) = subst (λ o. IsLastPair h c.args.place o) c.in-Some.is c.in_ok-race.ensures in
     let updates = c.in_ok-insert.ensures.updates in
-    new_cell h c.args.place race (get nat_cmp c.args.found.now) (get nat_cmp c.insert.new.self) last (none_from _ (sym c.if-not-contains_key.ensures)) updates.1 (λ q other. updates.2 q (apart race.cell q other))
+    new_cell h c.args.place race (get nat_cmp c.args.found.now) (get nat_cmp c.insert.new.self) last
+    (none_from _ (sym c.if-not-contains_key.ensures)) updates.1 (λ q other. updates.2 q (apart race.cell q other))
 
 pub returns-else-not-contains_key : goal.returns-else-not-contains_key
 returns-else-not-contains_key c =

@@ -15,11 +15,13 @@ use Rattle.race_report.proofs.Lasts.{no_partner, last_partner}
 use Rattle.race_report.proofs.Places.{event_at}
 use Rattle.race_report.proofs.pairs.last_pair.Goals as goal
 
-has_joined : (entries : List Entry) (dag : Dag) (joined : Joined) (strand : ℕ) → IsDagOf entries dag → ((v : ℕ) → IsTrue (is_joined joined v) ↔ AreJoinedBy (map ends_of dag.onward.items) v strand) → HasJoined (map event_of entries) joined strand
+has_joined : (entries : List Entry) (dag : Dag) (joined : Joined) (strand : ℕ) → IsDagOf entries dag
+    → ((v : ℕ) → IsTrue (is_joined joined v) ↔ AreJoinedBy (map ends_of dag.onward.items) v strand) → HasJoined (map event_of entries) joined strand
 has_joined entries dag joined strand is has =
     subst (λ es. (v : ℕ) → IsTrue (is_joined joined v) ↔ AreJoinedBy es v strand) is.onward has
 
-within : (entries : List Entry) (place : ℕ) (access : Access) (joined : Joined) (o : Option ℕ) → IsLastPlace (is_rival access joined) (map event_of (take place entries)) o → IsLastPlace (is_rival access joined) (take place (map event_of entries)) o
+within : (entries : List Entry) (place : ℕ) (access : Access) (joined : Joined) (o : Option ℕ)
+    → IsLastPlace (is_rival access joined) (map event_of (take place entries)) o → IsLastPlace (is_rival access joined) (take place (map event_of entries)) o
 within entries place access joined o last = subst (λ l. IsLastPlace (is_rival access joined) l o) (sym (take-map event_of place entries)) last
 
 pub returns-in_default-partner : goal.returns-in_default-partner
@@ -28,7 +30,9 @@ returns-in_default-partner c =
     let e = c.index-entries-place.result in
     let joined = c.in_ok-joined.joined in
     let access = c.in-Some.access in
-    no_partner (map event_of entries) c.args.place (event_of e) (event_at entries c.args.place e c.requires.within c.index-entries-place.is) access (sym c.in-Some.ensures) joined (has_joined entries c.args.dag.now joined e.strand c.requires.dag c.in_ok-joined.ensures) (within entries c.args.place access joined None c.in_default-partner.ensures)
+    no_partner (map event_of entries) c.args.place (event_of e) (event_at entries c.args.place e c.requires.within c.index-entries-place.is) access
+    (sym c.in-Some.ensures) joined (has_joined entries c.args.dag.now joined e.strand c.requires.dag c.in_ok-joined.ensures)
+    (within entries c.args.place access joined None c.in_default-partner.ensures)
 
 pub returns : goal.returns
 returns c =
@@ -36,4 +40,6 @@ returns c =
     let e = c.index-entries-place.result in
     let joined = c.in_ok-joined.joined in
     let access = c.in-Some.access in
-    last_partner (map event_of entries) c.args.place (event_of e) (event_at entries c.args.place e c.requires.within c.index-entries-place.is) access (sym c.in-Some.ensures) joined (has_joined entries c.args.dag.now joined e.strand c.requires.dag c.in_ok-joined.ensures) c.in-Some-partner.first (within entries c.args.place access joined (Some c.in-Some-partner.first) c.in-Some-partner.ensures)
+    last_partner (map event_of entries) c.args.place (event_of e) (event_at entries c.args.place e c.requires.within c.index-entries-place.is) access
+    (sym c.in-Some.ensures) joined (has_joined entries c.args.dag.now joined e.strand c.requires.dag c.in_ok-joined.ensures) c.in-Some-partner.first
+    (within entries c.args.place access joined (Some c.in-Some-partner.first) c.in-Some-partner.ensures)

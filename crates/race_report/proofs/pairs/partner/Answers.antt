@@ -18,4 +18,5 @@ loop-place-preserved c =
     let e = c.index-entries-place.result in
     let i = c.loop-place.place - 1 in
     let next : c.loop-place.place ≡ i + 1 = omega arith in
-    none_from_here (is_rival c.args.access c.args.joined.now) _ i c.loop-place.place (event_of e) next (event_at c.args.entries.now i e (omega arith) c.index-entries-place.is) (sym c.if-is_rival.ensures) c.loop-place.invariant
+    none_from_here (is_rival c.args.access c.args.joined.now) _ i c.loop-place.place (event_of e) next
+    (event_at c.args.entries.now i e (omega arith) c.index-entries-place.is) (sym c.if-is_rival.ensures) c.loop-place.invariant

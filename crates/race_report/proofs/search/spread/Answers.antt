@@ -21,7 +21,8 @@ loop-step-preserved c =
       kept = λ v h. kept_more e (has mid) (has c.follow.new.reached) adds v (so_far.kept v h);
       sound = λ start h. sound_more steps i none e (has mid) (has c.follow.new.reached) start lt refl adds (so_far.sound start h);
       rises = omega (arith, so_far.rises, c.in_ok-follow.ensures.len);
-      closed = closed_more steps i none e (has mid) (has c.follow.new.reached) (btree_set_len old) (btree_set_len mid) (btree_set_len c.follow.new.reached) lt refl adds so_far.rises c.in_ok-follow.ensures.len so_far.closed;
+      closed = closed_more steps i none e (has mid) (has c.follow.new.reached) (btree_set_len old) (btree_set_len mid)
+          (btree_set_len c.follow.new.reached) lt refl adds so_far.rises c.in_ok-follow.ensures.len so_far.closed;
     }
 
 pub returns-clause-closed : goal.returns-clause-closed

@@ -18,7 +18,8 @@ count_at-requires-clause-least c =
 
 pub returns-clause-blocks : goal.returns-clause-blocks
 returns-clause-blocks c =
-    let rest : AreBlocks (values c.behind-rest.result.now) = subst AreBlocks (sym c.behind-rest.ensures.blocks) (blocks_drop c.first_block.result (values c.args.blocks.now) c.requires) in
+    let rest : AreBlocks (values c.behind-rest.result.now) =
+    subst AreBlocks (sym c.behind-rest.ensures.blocks) (blocks_drop c.first_block.result (values c.args.blocks.now) c.requires) in
     subst AreBlocks (sym c.front.ensures.blocks) (blocks_take c.count_at.result (values c.behind-rest.result.now) rest)
 
 pub returns-clause-strands : goal.returns-clause-strands
@@ -29,6 +30,9 @@ returns-clause-strands c =
     let key = c.args.key in
     let P : List Block → Type 0 = λ l. (b : Block) → Among b (take n l) → b.key ≡ key in
     let Q : List Block → Type 0 = λ l. (b : Block) → Among b (drop n l) → key < b.key in
-    let all : flat (values c.front.result.now) ≡ flat (take n (drop c.first_block.result bs)) = ap flat c.front.ensures.blocks ∙ ap (λ l. flat (take n l)) rest in
+    let all : flat (values c.front.result.now) ≡ flat (take n (drop c.first_block.result bs)) =
+    ap flat c.front.ensures.blocks ∙ ap (λ l. flat (take n l)) rest in
     let R : List Strand → Type 0 = λ l. (w : Strand) → Among w l ↔ (Among w (flat bs) × (key_of w ≡ key)) in
-    subst R (sym all) (found bs c.requires c.first_block.result n key c.first_block.ensures.before (subst P rest c.count_at.ensures.at) (subst Q rest c.count_at.ensures.rest))
+    subst R (sym all)
+    (found bs c.requires c.first_block.result n key c.first_block.ensures.before (subst P rest c.count_at.ensures.at)
+    (subst Q rest c.count_at.ensures.rest))

@@ -27,8 +27,15 @@ returns-then-branch-clause-tells g c =
     let v = c.loop-w.invariant in
     let w : Strand = get_or xs c.loop-w.w-index none in
     let P : List ℕ → Type 0 = λ e. IsOrPrecedes e (g.J.Judge.hebrew c.loop-w.judge) c.args.u.number w.number in
-    let Q : List ℕ → Type 0 = λ h. IsOrPrecedes (g.J.Judge.english c.args.judge.now) h c.args.u.number w.number in
-    (λ _. (w, at_place xs c.loop-w.w-index none (omega arith), subst Q v.judge.hebrew (subst P v.judge.english (c.in_ok-is_or_precedes.ensures.tells.0 c.if-branch.true))), λ _. refl)
+    let Q : List ℕ → Type 0 = λ h. IsOrPrecedes (g.J.Judge.english c.args.judge.now) h c.args.u.number w.number in (
+      λ _. (
+        w,
+        at_place xs c.loop-w.w-index none (omega arith),
+        subst Q v.judge.hebrew
+            (subst P v.judge.english (c.in_ok-is_or_precedes.ensures.tells.0 c.if-branch.true)),
+      ),
+      λ _. refl,
+    )
 
 pub loop-w-preserved : goal.loop-w-preserved
 loop-w-preserved g c =

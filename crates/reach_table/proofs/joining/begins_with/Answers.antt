@@ -7,7 +7,8 @@ use Rattle.reach_table.proofs.Members.{at_place, in_more, same_strand, and_left,
 use Rattle.reach_table.proofs.joining.begins_with.Goals as goal
 
 -- the next strand is the same
-same_more : (xs ws : List Strand) (n : ℕ) (d : Strand) → n < length xs → n < length ws → get_or xs n d ≡ get_or ws n d → ((x : Strand) → Among x (take n xs) → Among x ws) → (x : Strand) → Among x (take (n + 1) xs) → Among x ws
+same_more : (xs ws : List Strand) (n : ℕ) (d : Strand) → n < length xs → n < length ws → get_or xs n d ≡ get_or ws n d
+    → ((x : Strand) → Among x (take n xs) → Among x ws) → (x : Strand) → Among x (take (n + 1) xs) → Among x ws
 same_more xs ws n d lx lw same was x a = elim (in_more xs n d lx x a) [
   | inl l ↦ was x l
   | inr e ↦ (let P : Strand → Type 0 = λ z. Among z ws in subst P (sym same ∙ e) (at_place ws n d lw))
@@ -24,7 +25,8 @@ loop-n-preserved c = λ yes.
     let both = and_left (c.loop-n.same && (x.number == w.number)) (x.future == w.future) yes in
     let future = is_eq x.future w.future (and_right (c.loop-n.same && (x.number == w.number)) (x.future == w.future) yes) in
     let number = is_eq x.number w.number (and_right c.loop-n.same (x.number == w.number) both) in
-    same_more xs ws n none c.loop-n-test.true (omega arith) (same_strand x w number future) (c.loop-n.invariant (and_left c.loop-n.same (x.number == w.number) both))
+    same_more xs ws n none c.loop-n-test.true (omega arith) (same_strand x w number future)
+    (c.loop-n.invariant (and_left c.loop-n.same (x.number == w.number) both))
 
 pub returns : goal.returns
 returns c = λ yes x a.

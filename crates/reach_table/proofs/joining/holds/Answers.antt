@@ -26,12 +26,15 @@ loop-i-preserved c =
       | then-eq w ↦ record {
         first = omega arith;
         second = omega (arith, w.j-is);
-        held = subst P (sym w.j-is) (holds_more c.args.lists.now ws xs j none (get_or ws i none) c.if-j-other.true v.held here (inl (equal_strands (get_or xs j none) (get_or ws i none) c.eq.result c.eq.ensures w.if-eq.true)));
+        held = subst P (sym w.j-is)
+            (holds_more c.args.lists.now ws xs j none (get_or ws i none) c.if-j-other.true v.held here
+            (inl (equal_strands (get_or xs j none) (get_or ws i none) c.eq.result c.eq.ensures w.if-eq.true)));
       }
       | else-eq+then-other-j+else-not-is_earlier w ↦ record {
         first = omega arith;
         second = omega (arith, w.j-is);
-        held = subst P (sym w.j-is) (holds_more c.args.lists.now ws xs j none (get_or ws i none) c.if-j-other.true v.held here (inr (w.is_earlier.ensures w.if-not-is_earlier.false)));
+        held = subst P (sym w.j-is)
+            (holds_more c.args.lists.now ws xs j none (get_or ws i none) c.if-j-other.true v.held here (inr (w.is_earlier.ensures w.if-not-is_earlier.false)));
       }
       | else-eq+else-other-j w ↦ record {
         first = omega arith;

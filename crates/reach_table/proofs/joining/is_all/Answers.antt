@@ -30,6 +30,7 @@ returns-then-holds c = λ yes.
           let all = subst Q same (w.holds.ensures (sym w.value-is ∙ c.if-holds.true)) in
           elim c.if-block.branch [
             | else-block v ↦ absurd (true≢false (sym w.if-lacks.true ∙ v.value-is ∙ v.if-block.false))
-            | then-block v ↦ held_together c.args.lists.now c.args.own ws c.args.other.now c.args.last (c.requires.block.alone v.if-block.true) (v.lacks.ensures (sym v.value-is ∙ w.if-lacks.true)) all last
+            | then-block v ↦ held_together c.args.lists.now c.args.own ws c.args.other.now c.args.last (c.requires.block.alone v.if-block.true)
+                (v.lacks.ensures (sym v.value-is ∙ w.if-lacks.true)) all last
           ])
     ]

@@ -26,17 +26,27 @@ pub joined-requires-clause-one_in : goal.joined-requires-clause-one_in
 joined-requires-clause-one_in c = λ w a.
     let one = values c.loop-key.one.now in
     let P : List Block → Type 0 = λ l. Among w (flat l) in
-    c.requires.known w ((c.loop-key.invariant.whole_is w).1 (inr (of_parts (flat one) (flat (values c.loop-key.other.now)) c.loop-key.last w (inl (of_take c.count_at-first.result one w (subst P c.front.ensures.blocks a))))))
+    c.requires.known w
+    ((c.loop-key.invariant.whole_is w).1
+    (inr
+    (of_parts (flat one) (flat (values c.loop-key.other.now)) c.loop-key.last w
+    (inl (of_take c.count_at-first.result one w (subst P c.front.ensures.blocks a))))))
 
 pub joined-requires-clause-other_in : goal.joined-requires-clause-other_in
 joined-requires-clause-other_in c = λ w a.
     let other = values c.loop-key.other.now in
     let P : List Block → Type 0 = λ l. Among w (flat l) in
-    c.requires.known w ((c.loop-key.invariant.whole_is w).1 (inr (of_parts (flat (values c.loop-key.one.now)) (flat other) c.loop-key.last w (inr (inl (of_take c.count_at-second.result other w (subst P c.front-in-Some.ensures.blocks a)))))))
+    c.requires.known w
+    ((c.loop-key.invariant.whole_is w).1
+    (inr
+    (of_parts (flat (values c.loop-key.one.now)) (flat other) c.loop-key.last w
+    (inr (inl (of_take c.count_at-second.result other w (subst P c.front-in-Some.ensures.blocks a)))))))
 
 pub joined-requires-clause-last_in : goal.joined-requires-clause-last_in
 joined-requires-clause-last_in c = λ w a.
-    c.requires.known w ((c.loop-key.invariant.whole_is w).1 (inr (of_parts (flat (values c.loop-key.one.now)) (flat (values c.loop-key.other.now)) c.loop-key.last w (inr (inr ((c.taken.ensures w).0 a).0)))))
+    c.requires.known w
+    ((c.loop-key.invariant.whole_is w).1
+    (inr (of_parts (flat (values c.loop-key.one.now)) (flat (values c.loop-key.other.now)) c.loop-key.last w (inr (inr ((c.taken.ensures w).0 a).0)))))
 
 pub joined-requires-clause-one_keyed : goal.joined-requires-clause-one_keyed
 joined-requires-clause-one_keyed c =
@@ -53,10 +63,15 @@ loop-key-smaller c =
     let one = c.behind-one.ensures.len in
     let other = c.behind-other.ensures.len in
     let fewer = c.left-last.ensures.fewer in
-    let less : length c.behind-one.result.now + length c.behind-other.result.now + length (listed c.left-last.result) < length c.loop-key.one.now + length c.loop-key.other.now + length (listed c.loop-key.last) =
+    let less : length c.behind-one.result.now + length c.behind-other.result.now + length
+    (listed c.left-last.result) < length c.loop-key.one.now + length c.loop-key.other.now + length (listed c.loop-key.last) =
     elim c.in-Some.ensures.0 [
-      | inl (inl h) ↦ (let k = taken_one (values c.loop-key.one.now) c.count_at-first.result c.in-Some.key h c.count_at-first.ensures.rest in omega (arith, k, one, other, fewer))
-      | inl (inr h) ↦ (let k = taken_one (values c.loop-key.other.now) c.count_at-second.result c.in-Some.key h c.count_at-second.ensures.rest in omega (arith, k, one, other, fewer))
+      | inl (inl h) ↦
+          (let k = taken_one (values c.loop-key.one.now) c.count_at-first.result c.in-Some.key h c.count_at-first.ensures.rest in
+          omega (arith, k, one, other, fewer))
+      | inl (inr h) ↦
+          (let k = taken_one (values c.loop-key.other.now) c.count_at-second.result c.in-Some.key h c.count_at-second.ensures.rest in
+          omega (arith, k, one, other, fewer))
       | inr h ↦ (let k = c.left-last.ensures.less h in omega (arith, k, one, other))
     ] in
     less
@@ -73,11 +88,16 @@ loop-key-preserved c =
     let made = values (option_to_list c.in_ok-made.made) in
     let here = c.taken.result in
     let there = c.left-last.result in
-    let F : List Block → Type 0 = λ l. (w : Strand) → Among w (flat made) ↔ IsGreatest c.args.lists.now c.args.own (together (flat l) (flat (values c.front-in-Some.result.now)) here) w in
-    let G : List Block → Type 0 = λ l. (w : Strand) → Among w (flat made) ↔ IsGreatest c.args.lists.now c.args.own (together (flat (take first one)) (flat l) here) w in
+    let F : List Block → Type 0 =
+    λ l. (w : Strand) → Among w (flat made) ↔ IsGreatest c.args.lists.now c.args.own
+    (together (flat l) (flat (values c.front-in-Some.result.now)) here) w in
+    let G : List Block → Type 0 =
+    λ l. (w : Strand) → Among w (flat made) ↔ IsGreatest c.args.lists.now c.args.own (together (flat (take first one)) (flat l) here) w in
     let strands = subst G c.front-in-Some.ensures.blocks (subst F c.front.ensures.blocks c.in_ok-made.ensures.strands) in
-    let more = joins_more c.args.lists.now c.args.own whole all one other c.loop-key.last c.loop-key.invariant key c.in-Some.ensures.0 c.in-Some.ensures.1 first second
-    c.count_at-first.ensures.at c.count_at-first.ensures.rest c.count_at-second.ensures.at c.count_at-second.ensures.rest here there c.taken.ensures c.left-last.ensures.strands
+    let more =
+    joins_more c.args.lists.now c.args.own whole all one other c.loop-key.last c.loop-key.invariant key c.in-Some.ensures.0 c.in-Some.ensures.1 first second
+    c.count_at-first.ensures.at c.count_at-first.ensures.rest c.count_at-second.ensures.at c.count_at-second.ensures.rest here there c.taken.ensures
+    c.left-last.ensures.strands
     made c.in_ok-made.ensures.blocks c.in_ok-made.ensures.keyed strands in
     let P : List Block → Type 0 = λ l. Joins c.args.lists.now c.args.own whole l (drop first one) (drop second other) there in
     let Q : List Block → Type 0 = λ l. Joins c.args.lists.now c.args.own whole (values c.push_block.new.all.items) l (drop second other) there in
@@ -86,4 +106,5 @@ loop-key-preserved c =
 
 pub returns-clause-strands : goal.returns-clause-strands
 returns-clause-strands c =
-    joins_all c.args.lists.now c.args.own (together (flat (values c.args.one.now)) (flat (values c.args.other.now)) c.args.last) (values c.loop-key.all.items) (values c.loop-key.one.now) (values c.loop-key.other.now) c.loop-key.last c.loop-key.invariant (rw c.in_default.is at c.next_key.ensures)
+    joins_all c.args.lists.now c.args.own (together (flat (values c.args.one.now)) (flat (values c.args.other.now)) c.args.last) (values c.loop-key.all.items)
+    (values c.loop-key.one.now) (values c.loop-key.other.now) c.loop-key.last c.loop-key.invariant (rw c.in_default.is at c.next_key.ensures)

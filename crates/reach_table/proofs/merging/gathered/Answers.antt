@@ -11,6 +11,9 @@ pub returns-clause-strands : goal.returns-clause-strands
 returns-clause-strands c =
     let P : List Strand → Type 0 = λ l. (w : Strand) → Among w l ↔ Among w (together c.args.one.now c.args.other.now c.args.last) in
     elim c.match-last.branch [
-      | in-Some+in_ok-put_in-in-Some w ↦ subst P (sym (ap (λ v. v.items) w.all-is)) (with_last c.args.one.now c.args.other.now c.in_ok-all.all.items c.in_ok-all.all.items w.put_in.new.all.items c.args.last w.in-Some.last w.in-Some.is c.in_ok-all.ensures.strands refl w.in_ok-put_in-in-Some.ensures.strands)
-      | in-None w ↦ subst P (sym (ap (λ v. v.items) w.all-is)) (with_none c.args.one.now c.args.other.now c.in_ok-all.all.items c.args.last w.in-None.is c.in_ok-all.ensures.strands)
+      | in-Some+in_ok-put_in-in-Some w ↦ subst P (sym (ap (λ v. v.items) w.all-is))
+          (with_last c.args.one.now c.args.other.now c.in_ok-all.all.items c.in_ok-all.all.items w.put_in.new.all.items c.args.last w.in-Some.last
+          w.in-Some.is c.in_ok-all.ensures.strands refl w.in_ok-put_in-in-Some.ensures.strands)
+      | in-None w ↦ subst P (sym (ap (λ v. v.items) w.all-is))
+          (with_none c.args.one.now c.args.other.now c.in_ok-all.all.items c.args.last w.in-None.is c.in_ok-all.ensures.strands)
     ]

@@ -8,7 +8,8 @@ use Rattle.reach_table.proofs.Runs.{part, pending_more, pending_none}
 use Rattle.reach_table.proofs.Leaving.{Leaves, leaves_more, leaves_out, leaves_all}
 use Rattle.reach_table.proofs.Apart.{leaves_run, pending_all}
 use Rattle.reach_table.proofs.merging.greatest.Goals as goal
-use Rattle.reach_table.proofs.merging.greatest.Goals.{then-width-strands, else-width-strands, then-not-is_greatest+in_ok-extend_from_slice, else-not-is_greatest, In_ok-extend_from_slice-2, Then-are_alone}
+use Rattle.reach_table.proofs.merging.greatest.Goals.{then-width-strands, else-width-strands, then-not-is_greatest+in_ok-extend_from_slice}
+use Rattle.reach_table.proofs.merging.greatest.Goals.{else-not-is_greatest, In_ok-extend_from_slice-2, Then-are_alone}
 
 pub loop-place-preserved-then-are_alone : goal.loop-place-preserved-then-are_alone
 loop-place-preserved-then-are_alone c =
@@ -20,15 +21,24 @@ loop-place-preserved-then-are_alone c =
     let i = c.loop-place.place in
     let end = c.if-width-strands.end in
     let v = c.loop-place.invariant in
-    let le : i ≤ end = elim c.if-width-strands.branch [ then-width-strands w ↦ omega (arith, w.end-is) | else-width-strands w ↦ omega (arith, w.end-is, v.within) ] in
-    let on : end ≤ length ws = elim c.if-width-strands.branch [ then-width-strands w ↦ omega (arith, w.end-is, w.if-width-strands.true, v.within) | else-width-strands w ↦ omega (arith, w.end-is) ] in
+    let le : i ≤ end =
+    elim c.if-width-strands.branch [ then-width-strands w ↦ omega (arith, w.end-is) | else-width-strands w ↦ omega (arith, w.end-is, v.within) ] in
+    let on : end ≤ length ws =
+    elim c.if-width-strands.branch [
+      | then-width-strands w ↦ omega (arith, w.end-is, w.if-width-strands.true, v.within)
+      | else-width-strands w ↦
+          omega (arith, w.end-is)
+    ] in
     let same : i + (end - i) ≡ end = omega (arith, le) in
     let P : ℕ → Type 0 = λ m. Leaves lists own ws m (left ++ part start m ws) in
     record {
       order = omega (arith, v.order, le);
       within = on;
       some = omega (arith, v.some, c.wider-width.ensures);
-      leaves = subst P same (leaves_run lists own ws left start i (end - i) v.order (omega (arith, same, on)) v.leaves (λ k a b. c.are_alone.ensures c.if-are_alone.true lists k a (omega (arith, b, same))));
+      leaves =
+          subst P same
+          (leaves_run lists own ws left start i (end - i) v.order (omega (arith, same, on)) v.leaves
+          (λ k a b. c.are_alone.ensures c.if-are_alone.true lists k a (omega (arith, b, same))));
     }
 
 pub loop-place-preserved : goal.loop-place-preserved
@@ -44,7 +54,12 @@ loop-place-preserved c =
     let place = c.if-not-is_greatest.start in
     let v = c.loop-place.invariant in
     record {
-      order = elim c.if-not-is_greatest.branch [ then-not-is_greatest+in_ok-extend_from_slice w ↦ omega (arith, w.start-is) | else-not-is_greatest w ↦ omega (arith, w.start-is, v.order) ];
+      order =
+          elim c.if-not-is_greatest.branch [
+            | then-not-is_greatest+in_ok-extend_from_slice w ↦ omega (arith, w.start-is)
+            | else-not-is_greatest w ↦
+                omega (arith, w.start-is, v.order)
+          ];
       within = omega arith;
       some = omega arith;
       leaves = elim c.if-not-is_greatest.branch [
@@ -56,11 +71,13 @@ loop-place-preserved c =
         | else-not-is_greatest w ↦
             leaves_more lists own ws (left ++ part start i ws) (new ++ part place (i + 1) ws) i none (omega arith) v.leaves
             (c.is_greatest.ensures.0 w.if-not-is_greatest.false)
-            (ap (λ k. new ++ part k (i + 1) ws) w.start-is ∙ ap (λ l. l.items ++ part start (i + 1) ws) w.left-is ∙ pending_more left ws start i none v.order (omega arith))
+            (ap (λ k. new ++ part k (i + 1) ws) w.start-is ∙ ap (λ l. l.items ++ part start (i + 1) ws) w.left-is
+            ∙ pending_more left ws start i none v.order (omega arith))
       ];
     }
 
-all_is : (c : goal.In_ok-extend_from_slice-2) → c.extend_from_slice-2.new.self.items ≡ c.loop-place.left.items ++ part c.loop-place.start c.loop-place.place c.args.strands.now
+all_is : (c : goal.In_ok-extend_from_slice-2) → c.extend_from_slice-2.new.self.items
+    ≡ c.loop-place.left.items ++ part c.loop-place.start c.loop-place.place c.args.strands.now
 all_is c =
     let ws = c.args.strands.now in
     let left = c.loop-place.left.items in
@@ -72,4 +89,6 @@ pub returns-clause-strands : goal.returns-clause-strands
 returns-clause-strands c =
     let ws = c.args.strands.now in
     let P : List Strand → Type 0 = λ l. (w : Strand) → Among w l ↔ IsGreatest c.args.lists.now c.args.own ws w in
-    subst P (sym (all_is c)) (leaves_all c.args.lists.now c.args.own ws (c.loop-place.left.items ++ part c.loop-place.start c.loop-place.place ws) c.loop-place.place (omega arith) c.loop-place.invariant.leaves).1
+    subst P (sym (all_is c))
+    (leaves_all c.args.lists.now c.args.own ws (c.loop-place.left.items ++ part c.loop-place.start c.loop-place.place ws) c.loop-place.place
+    (omega arith) c.loop-place.invariant.leaves).1

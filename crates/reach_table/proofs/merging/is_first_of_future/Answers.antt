@@ -10,4 +10,5 @@ returns-else-place-eq0 c less w among =
     let ws = c.args.strands.now in
     let n = c.args.place in
     let one : suc (n - 1) ≡ n = omega (arith, c.if-place-eq0.false) in
-    before_more ws (n - 1) (record { number = 0; future = 0 }) (strand_at ws n).future c.requires.rising (omega (arith, c.requires.within)) (ltb-true _ _ less) w (subst (λ k. Among w (take k ws)) (sym one) among)
+    before_more ws (n - 1) (record { number = 0; future = 0 }) (strand_at ws n).future c.requires.rising (omega (arith, c.requires.within))
+    (ltb-true _ _ less) w (subst (λ k. Among w (take k ws)) (sym one) among)

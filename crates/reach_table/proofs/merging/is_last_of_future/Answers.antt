@@ -9,5 +9,6 @@ returns-else-place-strands c less w among =
     let ws = c.args.strands.now in
     let n = c.args.place in
     let there : n + 1 < length ws = omega (arith, c.requires.within, c.if-place-strands.false) in
-    let up = after_more ws (n + 1) (record { number = 0; future = 0 }) ((strand_at ws n).future + 1) c.requires.rising there (omega (arith, ltb-true _ _ less)) w among in
+    let up = after_more ws (n + 1) (record { number = 0; future = 0 }) ((strand_at ws n).future + 1) c.requires.rising there
+    (omega (arith, ltb-true _ _ less)) w among in
     omega (arith, up)

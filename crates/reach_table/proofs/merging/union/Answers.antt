@@ -24,7 +24,9 @@ loop-i-preserved-then-eq c =
       order = omega (arith, v.order);
       first = omega arith;
       second = omega arith;
-      unites = step_both one other (all ++ part start i one) (all ++ part start (i + 1) one) i j none (omega arith) (omega arith) v.unites (equal_strands (get_or one i none) (get_or other j none) c.eq.result c.eq.ensures c.if-eq.true) (pending_more all one start i none v.order (omega arith));
+      unites = step_both one other (all ++ part start i one) (all ++ part start (i + 1) one) i j none (omega arith) (omega arith) v.unites
+          (equal_strands (get_or one i none) (get_or other j none) c.eq.result c.eq.ensures c.if-eq.true)
+          (pending_more all one start i none v.order (omega arith));
     }
 
 pub loop-i-preserved-then-is_below : goal.loop-i-preserved-then-is_below
@@ -41,7 +43,8 @@ loop-i-preserved-then-is_below c =
       order = omega (arith, v.order);
       first = omega arith;
       second = v.second;
-      unites = step_one one other (all ++ part start i one) (all ++ part start (i + 1) one) i j none (omega arith) (omega arith) v.unites (c.is_below.ensures.0 c.if-is_below.true) (pending_more all one start i none v.order (omega arith));
+      unites = step_one one other (all ++ part start i one) (all ++ part start (i + 1) one) i j none (omega arith) (omega arith) v.unites
+          (c.is_below.ensures.0 c.if-is_below.true) (pending_more all one start i none v.order (omega arith));
     }
 
 pub loop-i-preserved : goal.loop-i-preserved
@@ -55,7 +58,8 @@ loop-i-preserved c =
     let j = c.loop-i.j in
     let y : Strand = get_or other j none in
     let v = c.loop-i.invariant in
-    let taken : c.push.new.self.items ≡ (all ++ part start i one) ++ y ∷ [] = c.in_ok-push.ensures.items ∙ ap (λ l. l ++ y ∷ []) c.in_ok-extend_from_slice.ensures.items in
+    let taken : c.push.new.self.items ≡ (all ++ part start i one) ++ y ∷ [] =
+    c.in_ok-push.ensures.items ∙ ap (λ l. l ++ y ∷ []) c.in_ok-extend_from_slice.ensures.items in
     record {
       order = omega arith;
       first = v.first;
@@ -67,24 +71,35 @@ loop-i-preserved c =
     }
 
 out : (c : goal.In_ok-extend_from_slice-3) → IsOut (drop c.loop-i.i c.args.one.now) (drop c.loop-i.j c.args.other.now)
-out c = elim c.loop-i-test.branch [ then-loop-i-test+else-j-other w ↦ inr (drop_all c.loop-i.j c.args.other.now (omega arith)) | else-loop-i-test w ↦ inl (drop_all c.loop-i.i c.args.one.now (omega arith)) ]
+out c =
+    elim c.loop-i-test.branch [
+      | then-loop-i-test+else-j-other w ↦ inr (drop_all c.loop-i.j c.args.other.now (omega arith))
+      | else-loop-i-test w ↦
+          inl (drop_all c.loop-i.i c.args.one.now (omega arith))
+    ]
 
-all_is : (c : goal.In_ok-extend_from_slice-3) → c.extend_from_slice-3.new.self.items ≡ ((c.loop-i.all.items ++ part c.loop-i.start c.loop-i.i c.args.one.now) ++ drop c.loop-i.i c.args.one.now) ++ drop c.loop-i.j c.args.other.now
+all_is : (c : goal.In_ok-extend_from_slice-3) → c.extend_from_slice-3.new.self.items
+    ≡ ((c.loop-i.all.items ++ part c.loop-i.start c.loop-i.i c.args.one.now) ++ drop c.loop-i.i c.args.one.now) ++ drop c.loop-i.j c.args.other.now
 all_is c =
     let one = c.args.one.now in
     let other = c.args.other.now in
     let all = c.loop-i.all.items in
     let start = c.loop-i.start in
     let j = c.loop-i.j in
-    let first : c.extend_from_slice-2.new.self.items ≡ all ++ drop start one = c.in_ok-extend_from_slice-2.ensures.items ∙ ap (λ l. all ++ l) (take_rest one start) in
-    let second : c.extend_from_slice-3.new.self.items ≡ c.extend_from_slice-2.new.self.items ++ drop j other = c.in_ok-extend_from_slice-3.ensures.items ∙ ap (λ l. c.extend_from_slice-2.new.self.items ++ l) (take_rest other j) in
+    let first : c.extend_from_slice-2.new.self.items ≡ all ++ drop start one =
+    c.in_ok-extend_from_slice-2.ensures.items ∙ ap (λ l. all ++ l) (take_rest one start) in
+    let second : c.extend_from_slice-3.new.self.items ≡ c.extend_from_slice-2.new.self.items ++ drop j other =
+    c.in_ok-extend_from_slice-3.ensures.items ∙ ap (λ l. c.extend_from_slice-2.new.self.items ++ l) (take_rest other j) in
     second ∙ ap (λ l. l ++ drop j other) (first ∙ sym (pending_rest all one start c.loop-i.i c.loop-i.invariant.order))
 
 pub returns-clause-rising : goal.returns-clause-rising
 returns-clause-rising c =
-    subst IsRising (sym (all_is c)) (ends_rising c.args.one.now c.args.other.now (c.loop-i.all.items ++ part c.loop-i.start c.loop-i.i c.args.one.now) _ _ c.loop-i.invariant.unites (out c))
+    subst IsRising (sym (all_is c))
+    (ends_rising c.args.one.now c.args.other.now (c.loop-i.all.items ++ part c.loop-i.start c.loop-i.i c.args.one.now) _ _ c.loop-i.invariant.unites
+    (out c))
 
 pub returns-clause-strands : goal.returns-clause-strands
 returns-clause-strands c =
     let P : List Strand → Type 0 = λ l. (w : Strand) → Among w l ↔ (Among w c.args.one.now ⊎ Among w c.args.other.now) in
-    subst P (sym (all_is c)) (ends_members c.args.one.now c.args.other.now (c.loop-i.all.items ++ part c.loop-i.start c.loop-i.i c.args.one.now) _ _ c.loop-i.invariant.unites)
+    subst P (sym (all_is c))
+    (ends_members c.args.one.now c.args.other.now (c.loop-i.all.items ++ part c.loop-i.start c.loop-i.i c.args.one.now) _ _ c.loop-i.invariant.unites)

@@ -15,4 +15,6 @@ returns-then-not-same_races c = λ P typed of.
     let k = subst (λ xs. (m : Machine) × IsReplayOf P code (map event_of xs) c.in_ok-made.made m) c.as_slice.ensures (c.in_ok-made.ensures P typed of) in
     let report = c.in-Ok.ensures P code h k.0 k.1 in
     others_by P code h c.in_ok-made.made k.0 told.races.items told.finish c.entries.result k.1 c.entries.ensures
-    (λ those. false≢true (sym c.if-not-same_races.true ∙ c.same_races.ensures.1 (c.as_slice-2.ensures ∙ (one_report h c.in-Ok.races.items told.races.items report those.0 ∙ sym c.as_slice-3.ensures))))
+    (λ those. false≢true
+    (sym c.if-not-same_races.true
+    ∙ c.same_races.ensures.1 (c.as_slice-2.ensures ∙ (one_report h c.in-Ok.races.items told.races.items report those.0 ∙ sym c.as_slice-3.ensures))))

@@ -17,21 +17,29 @@ returns-in-Err-NotLegal c = λ P typed of.
     let x = c.entry-item.result in
     let k = c.loop-entry.invariant P typed of in
     let h = map event_of (take i xs) in
-    let told = subst (λ s. IsStepped P c.args.code.now h k.0 (event_of x) c.step.new.self (Err s)) c.in-Err-NotLegal.field-0-is (c.in-Err-NotLegal.ensures P h k.0 k.1) in
-    no_step_at P xs i c.entries.result x k.0 (omega arith) (c.entries.ensures ∙ told.1.entries) (slice_get_read xs (length xs) i x refl (omega arith) c.entry-item.is) k.1.leads told.0
+    let told = subst (λ s. IsStepped P c.args.code.now h k.0 (event_of x) c.step.new.self (Err s)) c.in-Err-NotLegal.field-0-is
+    (c.in-Err-NotLegal.ensures P h k.0 k.1) in
+    no_step_at P xs i c.entries.result x k.0 (omega arith) (c.entries.ensures ∙ told.1.entries)
+    (slice_get_read xs (length xs) i x refl (omega arith) c.entry-item.is) k.1.leads told.0
 
 pub loop-entry-preserved : goal.loop-entry-preserved
 loop-entry-preserved c = λ P typed of.
     let xs = c.args.entries.now in
     let i = c.loop-entry.entry-index in
     let k = c.loop-entry.invariant P typed of in
-    let made = c.in-Ok-step.ensures P (map event_of (take i xs)) k.0 k.1 in
-    (made.0, subst (λ (h : List Event). IsReplayOf P c.args.code.now h c.step.new.self made.0) (sym (taken_more xs i c.entry-item.result (omega arith) c.entry-item.is)) made.2)
+    let made = c.in-Ok-step.ensures P (map event_of (take i xs)) k.0 k.1 in (
+      made.0,
+      subst (λ (h : List Event). IsReplayOf P c.args.code.now h c.step.new.self made.0)
+          (sym (taken_more xs i c.entry-item.result (omega arith) c.entry-item.is)) made.2,
+    )
 
 pub returns : goal.returns
 returns c = λ P typed of.
-    let k = c.loop-entry.invariant P typed of in
-    (k.0, subst (λ (h : List Event). IsReplayOf P c.args.code.now h c.loop-entry.run k.0) (taken_all c.args.entries.now c.loop-entry.entry-index (omega arith)) k.1)
+    let k = c.loop-entry.invariant P typed of in (
+      k.0,
+      subst (λ (h : List Event). IsReplayOf P c.args.code.now h c.loop-entry.run k.0)
+          (taken_all c.args.entries.now c.loop-entry.entry-index (omega arith)) k.1,
+    )
 
 pub step-requires-clause-few : goal.step-requires-clause-few
 step-requires-clause-few c =

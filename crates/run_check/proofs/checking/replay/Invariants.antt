@@ -8,4 +8,5 @@ use Rattle.run_replay.specs.Replays.{IsReplayOf}
 use Rattle.run_check.proofs.checking.replay.Given as goal
 
 abbrev pub invariant-loop-entry : goal.invariant-loop-entry
-invariant-loop-entry l = (P : tree.Program) → IsWellTyped P → IsCodeOf P l.code → (m : Machine) × IsReplayOf P l.code (map event_of (take l.entry-index l.entries)) l.run m
+invariant-loop-entry l = (P : tree.Program) → IsWellTyped P → IsCodeOf P l.code
+    → (m : Machine) × IsReplayOf P l.code (map event_of (take l.entry-index l.entries)) l.run m

@@ -17,4 +17,5 @@ returns c = λ P h m x.
     let code = c.args.code.now in
     let r = running_task P code h c.args.run.now m c.args.task x (sym c.runs.ensures ∙ c.if-not-runs.false) in
     subst (λ b. IsTrue b ↔ FinishHolds P h (finish.Futures c.args.task)) (sym c.is_to_create.ensures)
-    (futures_by P code h c.args.run.now m x c.args.task r.0 c.ask.result (sym c.creates.ensures ∙ c.if-creates-ne-MOST_CREATES.false) r.1 (c.ask.ensures.wish P h m r.0 x r.1.0))
+    (futures_by P code h c.args.run.now m x c.args.task r.0 c.ask.result (sym c.creates.ensures ∙ c.if-creates-ne-MOST_CREATES.false) r.1
+    (c.ask.ensures.wish P h m r.0 x r.1.0))

@@ -13,4 +13,5 @@ pub returns : goal.returns
 returns c = λ P h m x.
     let code = c.args.code.now in
     let r = running_task P code h c.args.run.now m c.args.task x (sym c.runs.ensures ∙ c.if-not-runs.false) in
-    local_by P code h c.args.run.now m x c.args.task r.0 c.ask.result c.is_long.result r.1 (c.ask.ensures.wish P h m r.0 x r.1.0) c.is_long.ensures.long c.is_long.ensures.event
+    local_by P code h c.args.run.now m x c.args.task r.0 c.ask.result c.is_long.result r.1
+    (c.ask.ensures.wish P h m r.0 x r.1.0) c.is_long.ensures.long c.is_long.ensures.event

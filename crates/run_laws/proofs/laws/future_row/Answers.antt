@@ -34,8 +34,12 @@ cells : HasCells future_program
 cells a (inl e) = subst (λ n. 0 < n) (ap (λ (x : CellArray). x.length) e) (lit< tt)
 cells a (inr h) = absurd h
 
-least : (u : ℕ) (q : Running) → IsRunning m1 u q → (u ≡ 1) ⊎ (stands_before (task_of future_program m1 1).strand q.strand (english_of (structure_of made)) ≡ true)
-least zero q h = inr (subst (λ (z : Running). stands_before (task_of future_program m1 1).strand z.strand (english_of (structure_of made)) ≡ true) (same_Some (task_of future_program m1 0) q h.0) refl)
+least : (u : ℕ) (q : Running) → IsRunning m1 u q
+    → (u ≡ 1) ⊎ (stands_before (task_of future_program m1 1).strand q.strand (english_of (structure_of made)) ≡ true)
+least zero q h =
+    inr
+    (subst (λ (z : Running). stands_before (task_of future_program m1 1).strand z.strand (english_of (structure_of made)) ≡ true)
+    (same_Some (task_of future_program m1 0) q h.0) refl)
 least (suc zero) q h = inl refl
 least (suc (suc u)) q h = absurd (let e : None ≡ Some q = h.0 in cc)
 
@@ -44,13 +48,16 @@ first = record { running = (refl, refl); least = least }
 
 wishes : (s : TaskState) → StandsAt (task_of future_program m1 1).state s → wish_of future_program s ≢ NoWish
 wishes s at =
-    let same : (task_of future_program m1 1).state ≡ s = stands_at_one (task_of future_program m1 1).state (task_of future_program m1 1).state s (stands_here (task_of future_program m1 1).state refl) at in
+    let same : (task_of future_program m1 1).state ≡ s =
+    stands_at_one (task_of future_program m1 1).state (task_of future_program m1 1).state s (stands_here (task_of future_program m1 1).state refl) at in
     subst (λ z. wish_of future_program z ≢ NoWish) same (λ e. (let k : ToEnd (Int (pos 7)) ≡ NoWish = e in cc))
 
 goes : IsAllowed future_program m1 1
 goes =
     elim (none_is_stuck future_program made m1 1 (task_of future_program m1 1) made_leads cells first wishes) [
-      | inl out ↦ absurd (stands_or_goes_on (task_of future_program m1 1).state (task_of future_program m1 1).state (stands_here (task_of future_program m1 1).state refl) out)
+      | inl out ↦
+          absurd
+          (stands_or_goes_on (task_of future_program m1 1).state (task_of future_program m1 1).state (stands_here (task_of future_program m1 1).state refl) out)
       | inr on ↦ on
     ]
 
@@ -74,7 +81,10 @@ pub returns : goal.returns
 returns c =
     let m4 : Machine = machine_after future_program m0 future_history in
     let l : Leads future_program (opening future_program) future_history m4 =
-    leads_all future_program m0 future_history ((refl, refl, refl, refl, refl, (refl, refl, refl)), ((refl, refl, refl, refl, refl, tt), ((refl, refl, refl, refl, refl, (refl, refl)), ((refl, refl, refl, refl, refl, tt), tt)))) in
+    leads_all future_program m0 future_history (
+      (refl, refl, refl, refl, refl, (refl, refl, refl)),
+      ((refl, refl, refl, refl, refl, tt), ((refl, refl, refl, refl, refl, (refl, refl)), ((refl, refl, refl, refl, refl, tt), tt))),
+    ) in
     record {
       cells = cells;
       whole = (m4, l, (refl, (refl, tt)));

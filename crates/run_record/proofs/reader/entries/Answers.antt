@@ -18,7 +18,8 @@ loop-place-preserved c =
     let ys = c.entry.new.cursor in
     let items : c.push.new.self.items ≡ c.loop-place.all.items ++ c.in_ok-next.next ∷ [] = grind (arith, common_steps) in
     let events : events_of c.push.new.self ≡ es ++ e ∷ [] = ap (λ q. map event_of q) items ∙ map_more c.loop-place.all.items c.in_ok-next.next in
-    let next = subst (λ (s : List Symbol). Steps s c.loop-place.cursor (entries_due (i + 1) (many - (i + 1))) ys) (sym (entries_next many i c.loop-place-test.true)) (first_goes (entry_due i) (entries_due (i + 1) (many - (i + 1))) c.in_ok-next.ensures.0) in
+    let next = subst (λ (s : List Symbol). Steps s c.loop-place.cursor (entries_due (i + 1) (many - (i + 1))) ys)
+    (sym (entries_next many i c.loop-place-test.true)) (first_goes (entry_due i) (entries_due (i + 1) (many - (i + 1))) c.in_ok-next.ensures.0) in
     record {
       goes = onward c.loop-place.invariant.goes next;
       text =

@@ -16,7 +16,8 @@ loop-preserved c =
     let many = c.args.many in
     let ys = c.race.new.cursor in
     let items : c.push.new.self.items ≡ rs ++ r ∷ [] = grind (arith, common_steps) in
-    let next = subst (λ (s : List Symbol). Steps s c.loop.cursor (races_due (many - (i + 1))) ys) (sym (races_next many i c.loop-test.true)) (first_goes race_due (races_due (many - (i + 1))) c.in_ok-next.ensures.0) in
+    let next = subst (λ (s : List Symbol). Steps s c.loop.cursor (races_due (many - (i + 1))) ys) (sym (races_next many i c.loop-test.true))
+    (first_goes race_due (races_due (many - (i + 1))) c.in_ok-next.ensures.0) in
     record {
       goes = onward c.loop.invariant.goes next;
       text =

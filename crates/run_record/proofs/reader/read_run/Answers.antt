@@ -11,9 +11,11 @@ not_run-requires-in-Err-Fault-clause-least c =
 pub returns-else-count-eq0 : goal.returns-else-count-eq0
 returns-else-count-eq0 c =
     let e = left_over c.new-cursor.result c.whole.new.cursor c.in-Ok.ensures.0 (λ z. c.if-count-eq0.false (c.count.ensures ∙ z)) in
-    not_run c.args.bytes.now c.count-else-count-eq0.result c.not_run.result c.not_run.ensures (sym (ap (λ (q : List ℕ). run all_due q) c.new-cursor.ensures) ∙ e ∙ ap Some (sym c.count-else-count-eq0.ensures))
+    not_run c.args.bytes.now c.count-else-count-eq0.result c.not_run.result c.not_run.ensures
+    (sym (ap (λ (q : List ℕ). run all_due q) c.new-cursor.ensures) ∙ e ∙ ap Some (sym c.count-else-count-eq0.ensures))
 
 pub returns-in-Err-Fault : goal.returns-in-Err-Fault
 returns-in-Err-Fault c =
     let e = stopped_run c.new-cursor.result c.whole.new.cursor c.in-Err-Fault.field-0 c.in-Err-Fault.field-0-is c.in-Err-Fault.ensures in
-    not_run c.args.bytes.now c.count-in-Err-Fault.result c.not_run-in-Err-Fault.result c.not_run-in-Err-Fault.ensures (sym (ap (λ (q : List ℕ). run all_due q) c.new-cursor.ensures) ∙ e ∙ ap Some (sym c.count-in-Err-Fault.ensures))
+    not_run c.args.bytes.now c.count-in-Err-Fault.result c.not_run-in-Err-Fault.result c.not_run-in-Err-Fault.ensures
+    (sym (ap (λ (q : List ℕ). run all_due q) c.new-cursor.ensures) ∙ e ∙ ap Some (sym c.count-in-Err-Fault.ensures))

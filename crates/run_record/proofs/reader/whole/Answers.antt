@@ -15,7 +15,9 @@ returns-in_err-program c =
 pub returns-in_err-history : goal.returns-in_err-history
 returns-in_err-history c =
     let p = err_from_is_err_and c.from_residual-in_err-history.result c.from_residual-in_err-history.ensures.1 in
-    rw (p.1, p.2) (second_stops program_due (history_due ++ (report_due ++ last_due)) c.in_ok-program.ensures.0 (first_stops history_due (report_due ++ last_due) c.in_err-history.ensures))
+    rw (p.1, p.2)
+    (second_stops program_due (history_due ++ (report_due ++ last_due)) c.in_ok-program.ensures.0
+    (first_stops history_due (report_due ++ last_due) c.in_err-history.ensures))
 
 pub returns-in_err-races : goal.returns-in_err-races
 returns-in_err-races c =
@@ -27,7 +29,8 @@ pub returns-in_err-finish : goal.returns-in_err-finish
 returns-in_err-finish c =
     let p = err_from_is_err_and c.from_residual-in_err-finish.result c.from_residual-in_err-finish.ensures.1 in
     rw (p.1, p.2) (second_stops program_due (history_due ++ (report_due ++ last_due)) c.in_ok-program.ensures.0
-    (second_stops history_due (report_due ++ last_due) c.in_ok-history.ensures.0 (second_stops report_due last_due c.in_ok-races.ensures.0 c.in_err-finish.ensures)))
+    (second_stops history_due (report_due ++ last_due) c.in_ok-history.ensures.0
+    (second_stops report_due last_due c.in_ok-races.ensures.0 c.in_err-finish.ensures)))
 
 pub returns : goal.returns
 returns c =
@@ -38,7 +41,9 @@ returns c =
     let ys = c.last.new.cursor in (
       after program_due (history_due ++ (report_due ++ last_due)) c.in_ok-program.ensures.0
           (after history_due (report_due ++ last_due) c.in_ok-history.ensures.0 (after report_due last_due c.in_ok-races.ensures.0 c.in_ok-finish.ensures.0)),
-      c.in_ok-program.ensures.1 ∙ ap (λ q. program_text p ++ q) (c.in_ok-history.ensures.1 ∙ ap (λ q. history_text es ++ q) (c.in_ok-races.ensures.1 ∙ ap (λ q. report_text rs ++ q) c.in_ok-finish.ensures.1))
+      c.in_ok-program.ensures.1
+          ∙ ap (λ q. program_text p ++ q)
+          (c.in_ok-history.ensures.1 ∙ ap (λ q. history_text es ++ q) (c.in_ok-races.ensures.1 ∙ ap (λ q. report_text rs ++ q) c.in_ok-finish.ensures.1))
           ∙ whole_is p es rs f ys,
       record {
         short = c.in_ok-program.ensures.2;

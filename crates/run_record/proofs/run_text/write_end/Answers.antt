@@ -18,7 +18,8 @@ returns-in-Failed-write_races g c =
     let rs = c.args.races.now.items in
     let end = last_text c.args.finish in
     let head = codes "races " ++ (decimal (length rs) ++ codes "\n") in
-    front_then _ (g.K.Sink.held c.write_pieces.new.out) _ _ (g.K.Sink.faults c.write_pieces.new.out) _ head (race_lines rs ++ end) _ Failed refl (rw c.len.ensures at c.in-All.ensures)
+    front_then _ (g.K.Sink.held c.write_pieces.new.out) _ _ (g.K.Sink.faults c.write_pieces.new.out) _ head (race_lines rs ++ end) _ Failed refl
+    (rw c.len.ensures at c.in-All.ensures)
     (front_failed _ _ _ _ (race_lines rs) end _ refl c.in-Failed-write_races.ensures)
 
 pub returns-in-Failed : goal.returns-in-Failed

@@ -7,6 +7,7 @@ use Rattle.run_record.proofs.run_text.write_entries.Given as goal
 
 abbrev pub invariant-loop-place : goal.invariant-loop-place
 invariant-loop-place g l = record {
-  taken : (done : List ℕ) × (entry_lines 0 (map event_of l.entries) ≡ done ++ entry_lines l.place (map event_of (drop l.place l.entries))) × Appends (g.K.Sink.held l.fn.out) (g.K.Sink.held l.out) done;
+  taken : (done : List ℕ) × (entry_lines 0 (map event_of l.entries) ≡ done ++ entry_lines l.place (map event_of (drop l.place l.entries)))
+      × Appends (g.K.Sink.held l.fn.out) (g.K.Sink.held l.out) done;
   quiet : g.K.Sink.faults l.out ≡ g.K.Sink.faults l.fn.out;
 }

@@ -12,7 +12,8 @@ returns-in-All-write_finish g c =
 
 pub returns-in-Failed-write_finish : goal.returns-in-Failed-write_finish
 returns-in-Failed-write_finish g c =
-    front_then _ (g.K.Sink.held c.write_text.new.out) _ _ (g.K.Sink.faults c.write_text.new.out) _ (codes "finish ") (finish_line c.args.finish ++ codes "end\n") _ Failed refl c.in-All.ensures
+    front_then _ (g.K.Sink.held c.write_text.new.out) _ _ (g.K.Sink.faults c.write_text.new.out) _ (codes "finish ")
+    (finish_line c.args.finish ++ codes "end\n") _ Failed refl c.in-All.ensures
     (front_failed _ _ _ _ (finish_line c.args.finish) (codes "end\n") _ refl c.in-Failed-write_finish.ensures)
 
 pub returns-in-Failed : goal.returns-in-Failed

@@ -20,7 +20,8 @@ returns-in-Failed-write_entries g c =
     let es = events_of c.args.history.now in
     let count : c.len.result ≡ length es = c.len.ensures ∙ sym (length-map c.args.history.now.items event_of) in
     let end = end_text c.args.races.now.items c.args.finish in
-    front_then _ (g.K.Sink.held c.write_program.new.out) _ _ (g.K.Sink.faults c.write_program.new.out) _ (head_text c.args.program.now (length es)) (entry_lines 0 es ++ end) _ Failed refl (rw count at c.in-All.ensures)
+    front_then _ (g.K.Sink.held c.write_program.new.out) _ _ (g.K.Sink.faults c.write_program.new.out) _ (head_text c.args.program.now (length es))
+    (entry_lines 0 es ++ end) _ Failed refl (rw count at c.in-All.ensures)
     (front_failed _ _ _ _ (entry_lines 0 es) end _ refl c.in-Failed-write_entries.ensures)
 
 pub returns-in-Failed : goal.returns-in-Failed

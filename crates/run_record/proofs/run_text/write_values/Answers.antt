@@ -9,7 +9,8 @@ pub returns-in-Failed : goal.returns-in-Failed
 returns-in-Failed g c =
     let taken = c.loop-value.invariant.taken in
     let next = at_drop_more values_line c.as_slice-values.result.now c.loop-value.value-index _ c.loop-value-test.true ∙ values_next _ _ in
-    rw (← c.as_slice-values.ensures) (stopped_in _ _ _ _ _ _ _ taken.0 _ _ (goes_on _ taken.0 _ _ _ taken.1 next) taken.2 c.loop-value.invariant.quiet c.in-Failed.ensures)
+    rw (← c.as_slice-values.ensures)
+    (stopped_in _ _ _ _ _ _ _ taken.0 _ _ (goes_on _ taken.0 _ _ _ taken.1 next) taken.2 c.loop-value.invariant.quiet c.in-Failed.ensures)
 
 pub loop-value-preserved : goal.loop-value-preserved
 loop-value-preserved g c =
@@ -24,4 +25,5 @@ pub returns : goal.returns
 returns g c =
     let taken = c.loop-value.invariant.taken in
     let end = at_drop_all values_line c.as_slice-values.result.now c.loop-value.value-index c.loop-value-test.false in
-    rw (← c.as_slice-values.ensures) (front_then _ _ _ _ _ _ taken.0 _ _ _ (sym (taken.1 ∙ rw end)) (taken.2, c.loop-value.invariant.quiet) c.write_text.ensures)
+    rw (← c.as_slice-values.ensures)
+    (front_then _ _ _ _ _ _ taken.0 _ _ _ (sym (taken.1 ∙ rw end)) (taken.2, c.loop-value.invariant.quiet) c.write_text.ensures)

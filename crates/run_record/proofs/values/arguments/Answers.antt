@@ -35,9 +35,11 @@ more-preserved c =
     let less : length vs < MOST_ARGUMENTS = omega (arith, few, c.len.ensures, c.if-len-eq-MOST_ARGUMENTS.false) in
     let some : nat_lt 0 (MOST_ARGUMENTS - length vs) ≡ true = grind (arith, nat_tests) in
     let left : MOST_ARGUMENTS - length vs - 1 ≡ MOST_ARGUMENTS - length c.push.new.self.items = omega (arith, many) in
-    let space = takes (Arguments (MOST_ARGUMENTS - length vs)) 32 (Datum ∷ Arguments (MOST_ARGUMENTS - length vs - 1) ∷ []) c.more.cursor m (is_true (nat_lt 0 (MOST_ARGUMENTS - length vs)) (Takes (Datum ∷ Arguments (MOST_ARGUMENTS - length vs - 1) ∷ [])) Refuses some) front in
+    let space = takes (Arguments (MOST_ARGUMENTS - length vs)) 32 (Datum ∷ Arguments (MOST_ARGUMENTS - length vs - 1) ∷ []) c.more.cursor m
+    (is_true (nat_lt 0 (MOST_ARGUMENTS - length vs)) (Takes (Datum ∷ Arguments (MOST_ARGUMENTS - length vs - 1) ∷ [])) Refuses some) front in
     record {
-      goes = subst (λ (n : ℕ). Steps (Arguments MOST_ARGUMENTS ∷ []) c.args.cursor.now (Arguments n ∷ []) ys) left (onward c.more.invariant.goes (onward space (first_goes (Datum ∷ []) (Arguments (MOST_ARGUMENTS - length vs - 1) ∷ []) c.in_ok-next.ensures.0)));
+      goes = subst (λ (n : ℕ). Steps (Arguments MOST_ARGUMENTS ∷ []) c.args.cursor.now (Arguments n ∷ []) ys) left
+          (onward c.more.invariant.goes (onward space (first_goes (Datum ∷ []) (Arguments (MOST_ARGUMENTS - length vs - 1) ∷ []) c.in_ok-next.ensures.0)));
       text = λ rest r e.
           c.more.invariant.text (v ∷ rest) r
           (front ∙ ap (λ q. 32 ∷ q) (c.in_ok-next.ensures.1 ∙ ap (λ q. value_text v ++ q) e ∙ sym (append_assoc (value_text v) (values_line rest) r)))

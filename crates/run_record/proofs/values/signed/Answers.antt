@@ -28,7 +28,8 @@ returns-in-Some-peek c =
     let next = in_view c.number.new.cursor c.in-Some-peek.field-0 (sym c.peek-2.ensures ∙ c.in-Some-peek.is) in
     let same = plain_z n d.most in
     let small = d.most in (
-      onward (unsigned_opens c.in-Some.byte c.args.cursor.now _ c.if-byte-eq45.false front) (number_goes kind.Positive n c.in-Some-peek.field-0 c.args.cursor.now c.number.new.cursor _ d next refl),
+      onward (unsigned_opens c.in-Some.byte c.args.cursor.now _ c.if-byte-eq45.false front)
+          (number_goes kind.Positive n c.in-Some-peek.field-0 c.args.cursor.now c.number.new.cursor _ d next refl),
       d.text ∙ ap (λ z. signed_decimal z ++ c.number.new.cursor) (sym same),
       subst IsSigned (sym same) (omega (arith, small)),
     )

@@ -12,7 +12,8 @@ returns-in-None c = λ P typed of.
     let code = c.args.code.now in
     let h = events_of c.args.history.now in
     let x = c.requires.runs P typed of in
-    stays P code c.args.limits h (events_of c.reserve.new.self) c.args.run.now c.args.run.now x finish.Whole (ap (map event_of) c.reserve.ensures.items) x.replay (c.in-None.ensures.first P code h x.machine x.replay)
+    stays P code c.args.limits h (events_of c.reserve.new.self) c.args.run.now c.args.run.now x finish.Whole
+    (ap (map event_of) c.reserve.ensures.items) x.replay (c.in-None.ensures.first P code h x.machine x.replay)
 
 pub returns-in-Spent : goal.returns-in-Spent
 returns-in-Spent c = λ P typed of.
@@ -21,7 +22,8 @@ returns-in-Spent c = λ P typed of.
     let x = c.requires.runs P typed of in
     let first = c.in-Some.ensures.first P code h x.machine x.replay in
     let spent = c.in-Spent.ensures P h x.machine x.replay in
-    stays P code c.args.limits h (events_of c.reserve.new.self) c.args.run.now c.event.new.self x c.in-Spent.finish (ap (map event_of) c.reserve.ensures.items) spent.1
+    stays P code c.args.limits h (events_of c.reserve.new.self) c.args.run.now c.event.new.self x c.in-Spent.finish
+    (ap (map event_of) c.reserve.ensures.items) spent.1
     (stops_of P c.args.limits h x.machine c.in-Some.task first.0 c.in-Spent.finish first.1 spent.0)
 
 pub returns-in-Made : goal.returns-in-Made
@@ -35,7 +37,8 @@ returns-in-Made c =
           let x = c.requires.runs P typed of in
           let first = c.in-Some.ensures.first P code h x.machine x.replay in
           subst (λ g. Runs P code c.args.limits g c.event.new.self) (sym added)
-          (runs_further P code c.args.limits h c.args.run.now c.event.new.self x c.in-Some.task first.0 (event_of e) first.1 (c.in-Made.ensures P h x.machine x.replay))),
+          (runs_further P code c.args.limits h c.args.run.now c.event.new.self x c.in-Some.task first.0 (event_of e) first.1
+          (c.in-Made.ensures P h x.machine x.replay))),
     )
 
 pub unreachable-requires : goal.unreachable-requires

@@ -22,13 +22,16 @@ pub absorb-requires : goal.absorb-requires
 absorb-requires g c =
     let at = sym c.pop.new.self.ok.0 ∙ sym c.len.ensures in
     subst (λ k. victim_id c.in-Some.victim ≡ id_of (get_or c.loop-victim.workers k c.index-workers-len.result)) at
-    (to_its_place c.args.workers.now c.loop-victim.workers c.args.row.items c.loop-victim.rest.items c.pop.new.self.items c.in-Some.victim c.index-workers-len.result c.in-Some.ensures.items c.loop-victim.invariant)
+    (to_its_place c.args.workers.now c.loop-victim.workers c.args.row.items c.loop-victim.rest.items c.pop.new.self.items c.in-Some.victim
+    c.index-workers-len.result c.in-Some.ensures.items c.loop-victim.invariant)
 
 pub loop-victim-preserved : goal.loop-victim-preserved
 loop-victim-preserved g c =
     let at = sym c.pop.new.self.ok.0 ∙ sym c.len.ensures in
-    one_back_at c.args.workers.now c.loop-victim.workers c.args.row.items c.loop-victim.rest.items c.pop.new.self.items c.in-Some.victim c.index-workers-len.result _ c.len.result at c.in-Some.ensures.items c.loop-victim.invariant
+    one_back_at c.args.workers.now c.loop-victim.workers c.args.row.items c.loop-victim.rest.items c.pop.new.self.items c.in-Some.victim
+    c.index-workers-len.result _ c.len.result at c.in-Some.ensures.items c.loop-victim.invariant
     refl c.absorb.ensures.same.0 c.absorb.ensures.rule refl refl refl refl refl refl
 
 pub returns : goal.returns
-returns g c = all_back c.args.workers.now c.loop-victim.workers c.args.row.items c.loop-victim.rest.items (nil_from_length c.loop-victim.rest.items (sym c.loop-victim.rest.ok.0 ∙ c.in_default.ensures.cases.0)) c.loop-victim.invariant
+returns g c = all_back c.args.workers.now c.loop-victim.workers c.args.row.items c.loop-victim.rest.items
+    (nil_from_length c.loop-victim.rest.items (sym c.loop-victim.rest.ok.0 ∙ c.in_default.ensures.cases.0)) c.loop-victim.invariant

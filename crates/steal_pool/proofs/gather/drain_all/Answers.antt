@@ -15,7 +15,9 @@ loop-k-preserved g c =
     let l : k < length ms = omega (arith, c.loop-k-test.true, c.loop-k.invariant.count) in
     record {
       count = length-set ms k m ∙ c.loop-k.invariant.count;
-      group = drained_one_at c.args.workers.now ms c.args.jobs.now.items c.loop-k.jobs.items c.drain.new.jobs.items k c.index-workers-k.result m l c.loop-k.invariant.group c.in_ok-drain.ensures.0;
+      group =
+          drained_one_at c.args.workers.now ms c.args.jobs.now.items c.loop-k.jobs.items c.drain.new.jobs.items k c.index-workers-k.result m l
+          c.loop-k.invariant.group c.in_ok-drain.ensures.0;
       bare = bare_more HasNothingLeft ms k m l c.in_ok-drain.ensures.1 c.loop-k.invariant.bare;
     }
 

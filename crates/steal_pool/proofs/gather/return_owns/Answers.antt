@@ -25,7 +25,10 @@ loop-worker-preserved g c =
     let owns = c.loop-worker.owns.items in
     let rest = into_iter_items c.next.new.self in
     record {
-      done = ap (λ o. o ++ map f rest) c.push.ensures.items ∙ (append_assoc owns (c.in-Some.worker.own ∷ []) (map f rest) ∙ (ap (λ r. owns ++ map f r) (sym c.in-Some.ensures.items) ∙ c.loop-worker.invariant.done));
+      done = ap (λ o. o ++ map f rest) c.push.ensures.items
+          ∙
+          (append_assoc owns (c.in-Some.worker.own ∷ []) (map f rest)
+          ∙ (ap (λ r. owns ++ map f r) (sym c.in-Some.ensures.items) ∙ c.loop-worker.invariant.done));
       room = omega (arith, c.loop-worker.invariant.room, c.push.ensures.spare);
     }
 

@@ -5,7 +5,8 @@ use Rattle.steal_pool.proofs.gather.return_owns.Given as goal
 
 abbrev pub invariant-loop-worker : goal.invariant-loop-worker
 invariant-loop-worker g l = record {
-  done : l.owns.items ++ map (λ (m : Worker g.row.J.Denot g.row.W.Denot). m.own) (into_iter_items l.rest) ≡ map (λ (m : Worker g.row.J.Denot g.row.W.Denot). m.own) l.fn.workers.items;
+  done : l.owns.items ++ map (λ (m : Worker g.row.J.Denot g.row.W.Denot). m.own) (into_iter_items l.rest)
+      ≡ map (λ (m : Worker g.row.J.Denot g.row.W.Denot). m.own) l.fn.workers.items;
   room : length (into_iter_items l.rest) ≤ l.owns.spare;
 }
 

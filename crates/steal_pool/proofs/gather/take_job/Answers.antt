@@ -6,4 +6,5 @@ use Rattle.steal_pool.proofs.gather.take_job.Goals as goal
 pub returns-clause-moved : goal.returns-clause-moved
 returns-clause-moved g c =
     took c.args.worker.now _ _ refl refl refl (c.take.ensures.after ∙ sym c.in_default.is ∙ c.take.ensures.value) (sym c.in_default-pop.ensures.items)
-    (popped c.args.worker.now.thief c.pop-2.new.self c.args.worker.now.thief.own.found_empty c.pop-2.new.self.own.found_empty c.pop-2.result c.pop-2.ensures.victims c.pop-2.ensures.same c.pop-2.ensures.rule)
+    (popped c.args.worker.now.thief c.pop-2.new.self c.args.worker.now.thief.own.found_empty c.pop-2.new.self.own.found_empty c.pop-2.result
+    c.pop-2.ensures.victims c.pop-2.ensures.same c.pop-2.ensures.rule)

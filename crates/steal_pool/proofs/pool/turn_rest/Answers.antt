@@ -32,7 +32,8 @@ loop-k-preserved g c =
     let m = c.turn_own.new.worker in
     let e = c.index-workers-k.result in
     let l : k < length ms = omega (arith, c.loop-k-test.true, c.loop-k.invariant.count) in
-    let R : Worker g.row.J.Denot g.row.W.Denot → Worker g.row.J.Denot g.row.W.Denot → Type 0 = λ a b. Worked (g.B.Body.turned c.args.body.now) a [] b [] × (IsStopped b ⊎ HasNothingLeft b) in
+    let R : Worker g.row.J.Denot g.row.W.Denot → Worker g.row.J.Denot g.row.W.Denot → Type 0 =
+    λ a b. Worked (g.B.Body.turned c.args.body.now) a [] b [] × (IsStopped b ⊎ HasNothingLeft b) in
     record {
       count = length-set ms k m ∙ c.loop-k.invariant.count;
       done = done_more R c.args.workers.now ms k e m l (c.turn_own.ensures.worked, c.turn_own.ensures.end) c.loop-k.invariant.rest c.loop-k.invariant.done;

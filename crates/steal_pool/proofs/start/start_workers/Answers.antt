@@ -17,8 +17,10 @@ returns g c =
     let m : Worker g.row.J.Denot g.row.W.Denot = record now { thief = c.push.new.self } in
     let e : now ≡ get_or items 0 m = c.index_mut.ensures.value ∙ get_or_default items 0 now m start.some in
     let p = c.in_default.ensures in (
-      started c.args.owns.now.items items m c.args.first start (p.victims ∙ ap (λ (x : Worker _ _). x.thief.victims) e) (p.same.0 ∙ ap (λ (x : Worker _ _). own_id x.thief.own) e)
-          (p.rule ∙ ap (λ (x : Worker _ _). with_put (own_tally x.thief.own) (c.args.first ∷ [])) e) (ap (λ (x : Worker _ _). x.number) e) (ap (λ (x : Worker _ _). x.own) e) (ap (λ (x : Worker _ _). x.next) e)
+      started c.args.owns.now.items items m c.args.first start (p.victims ∙ ap (λ (x : Worker _ _). x.thief.victims) e)
+          (p.same.0 ∙ ap (λ (x : Worker _ _). own_id x.thief.own) e)
+          (p.rule ∙ ap (λ (x : Worker _ _). with_put (own_tally x.thief.own) (c.args.first ∷ [])) e) (ap (λ (x : Worker _ _). x.number) e)
+          (ap (λ (x : Worker _ _). x.own) e) (ap (λ (x : Worker _ _). x.next) e)
           (ap (λ (x : Worker _ _). x.left) e) (ap (λ (x : Worker _ _). x.halted) e),
       c.in_ok-workers.ensures.1,
       c.in_ok-workers.ensures.2,

@@ -13,12 +13,14 @@ pub loop-w-init : goal.loop-w-init
 loop-w-init g c = record {
   len = c.in_ok-owns.ensures.0;
   owns = c.in_ok-owns.ensures.1;
-  rows = subst (All (λ (v : Vec (Victim g.row.J.Denot) Global). IsRow (map own_id c.in_ok-owns.owns.items) v.items)) (sym c.in_ok-rows.ensures.items) (λ k d l. absurd (omega arith));
+  rows = subst (All (λ (v : Vec (Victim g.row.J.Denot) Global). IsRow (map own_id c.in_ok-owns.owns.items) v.items)) (sym c.in_ok-rows.ensures.items)
+      (λ k d l. absurd (omega arith));
   count = ap length c.in_ok-rows.ensures.items;
 }
 
 pub new_victims-requires : goal.new_victims-requires
-new_victims-requires g c = (omega (arith, c.requires.1, c.loop-w-test.true), subst (All (HasMade c.loop-w.w)) (sym c.as_mut_slice.ensures.value) c.loop-w.invariant.owns)
+new_victims-requires g c =
+    (omega (arith, c.requires.1, c.loop-w-test.true), subst (All (HasMade c.loop-w.w)) (sym c.as_mut_slice.ensures.value) c.loop-w.invariant.owns)
 
 pub loop-w-preserved : goal.loop-w-preserved
 loop-w-preserved g c =
@@ -74,11 +76,13 @@ loop-own-preserved g c =
     record {
       ids = ids;
       making = subst (λ xs. Making c.args.workers ids xs rest' c.pop.new.self.items) (sym pushed)
-          (made_more c.args.workers ids all (into_iter_items c.loop-own.rest) rest' c.loop-own.rows.items c.pop.new.self.items c.in-Some.own c.in-Some-pop.victims t
+          (made_more c.args.workers ids all
+          (into_iter_items c.loop-own.rest) rest' c.loop-own.rows.items c.pop.new.self.items c.in-Some.own c.in-Some-pop.victims t
           c.in-Some.ensures.items c.in-Some-pop.ensures.items refl refl c.loop-own.invariant.making);
     }
 
 pub returns : goal.returns
 returns g c =
     let none = nil_from_length (into_iter_items c.loop-own.rest) (sym c.loop-own.rest.rest.ok.0 ∙ c.in_default.ensures.cases.0) in
-    all_made c.args.workers c.loop-own.invariant.ids c.loop-own.all.items (into_iter_items c.loop-own.rest) c.loop-own.rows.items none c.loop-own.invariant.making
+    all_made c.args.workers c.loop-own.invariant.ids c.loop-own.all.items
+    (into_iter_items c.loop-own.rest) c.loop-own.rows.items none c.loop-own.invariant.making

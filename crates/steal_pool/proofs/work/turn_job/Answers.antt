@@ -7,7 +7,9 @@ use Rattle.steal_pool.proofs.work.turn_job.Goals as goal
 
 pub returns-then-halt-clause-worked : goal.returns-then-halt-clause-worked
 returns-then-halt-clause-worked g c =
-    one_turn (g.B.Body.turned c.args.body.now) c.args.worker.now _ c.args.job c.turn-more.result.more.items [] c.turn-more.result.halt c.turn-more.ensures refl refl c.requires.2 (sym c.if-halt.true)
+    one_turn
+    (g.B.Body.turned c.args.body.now) c.args.worker.now _ c.args.job c.turn-more.result.more.items [] c.turn-more.result.halt c.turn-more.ensures refl
+    refl c.requires.2 (sym c.if-halt.true)
     (λ h. let none = ap (weigh h) c.requires.1 in omega (arith, none))
 
 pub returns-clause-worked : goal.returns-clause-worked

@@ -7,7 +7,9 @@ loop-init g c = record { runs = (tt, tt); worked = no_turn (g.B.Body.turned c.ar
 pub loop-preserved : goal.loop-preserved
 loop-preserved g c = record {
   runs = (tt, tt);
-  worked = one_more (g.B.Body.turned c.args.body.now) c.args.worker.now c.loop.worker c.own_job.new.worker c.turn_job.new.worker c.in-Some-own_job.job c.loop.invariant.worked
+  worked =
+      one_more
+      (g.B.Body.turned c.args.body.now) c.args.worker.now c.loop.worker c.own_job.new.worker c.turn_job.new.worker c.in-Some-own_job.job c.loop.invariant.worked
       c.in-Some-own_job.ensures.moved c.turn_job.ensures.worked;
   pushed = c.turn_job.ensures.pushed;
 }

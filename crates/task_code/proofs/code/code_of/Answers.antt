@@ -7,11 +7,14 @@ use Rattle.task_code.proofs.code.code_of.Goals as goal
 
 pub given_of-requires-clause-names : goal.given_of-requires-clause-names
 given_of-requires-clause-names c =
-    few_names (items_tree c.args.items.now) (params_tree c.args.params.now) (block_tree c.args.body.now) c.requires.sound c.in_ok-names.names c.as_slice.result.now (length c.args.params.now) c.as_slice.ensures (sym (length-map c.args.params.now param_tree)) c.in_ok-names.ensures.few
+    few_names (items_tree c.args.items.now) (params_tree c.args.params.now)
+    (block_tree c.args.body.now) c.requires.sound c.in_ok-names.names c.as_slice.result.now (length c.args.params.now) c.as_slice.ensures
+    (sym (length-map c.args.params.now param_tree)) c.in_ok-names.ensures.few
 
 pub given_of-requires-clause-serves : goal.given_of-requires-clause-serves
 given_of-requires-clause-serves c =
-    params_are_served (items_tree c.args.items.now) (params_tree c.args.params.now) (block_tree c.args.body.now) c.requires.sound c.in_ok-names.names c.as_slice.result.now c.as_slice.ensures c.in_ok-names.ensures.params
+    params_are_served (items_tree c.args.items.now) (params_tree c.args.params.now)
+    (block_tree c.args.body.now) c.requires.sound c.in_ok-names.names c.as_slice.result.now c.as_slice.ensures c.in_ok-names.ensures.params
 
 pub given_of-requires-clause-few : goal.given_of-requires-clause-few
 given_of-requires-clause-few c = few_arguments (items_tree c.args.items.now) (params_tree c.args.params.now) (block_tree c.args.body.now) c.requires.sound
@@ -22,12 +25,15 @@ invariant_of-scope c =
       are_arrays = c.requires.arrays;
       few_arrays = c.requires.few;
       few_tasks = c.requires.tasks;
-      few_names = few_names (items_tree c.args.items.now) (params_tree c.args.params.now) (block_tree c.args.body.now) c.requires.sound c.in_ok-names.names c.as_slice-2.result.now (length c.args.params.now) c.as_slice-2.ensures (sym (length-map c.args.params.now param_tree)) c.in_ok-names.ensures.few;
+      few_names = few_names (items_tree c.args.items.now) (params_tree c.args.params.now)
+          (block_tree c.args.body.now) c.requires.sound c.in_ok-names.names c.as_slice-2.result.now (length c.args.params.now) c.as_slice-2.ensures
+          (sym (length-map c.args.params.now param_tree)) c.in_ok-names.ensures.few;
     }
 
 pub add_block-requires-clause-serves : goal.add_block-requires-clause-serves
 add_block-requires-clause-serves c =
-    body_is_served (items_tree c.args.items.now) (params_tree c.args.params.now) (block_tree c.args.body.now) c.requires.sound c.in_ok-names.names c.as_slice-2.result.now c.as_slice-2.ensures c.in_ok-names.ensures.body
+    body_is_served (items_tree c.args.items.now) (params_tree c.args.params.now)
+    (block_tree c.args.body.now) c.requires.sound c.in_ok-names.names c.as_slice-2.result.now c.as_slice-2.ensures c.in_ok-names.ensures.body
 
 pub add_block-requires-clause-few : goal.add_block-requires-clause-few
 add_block-requires-clause-few c =

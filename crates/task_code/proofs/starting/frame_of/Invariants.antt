@@ -10,5 +10,6 @@ abbrev pub invariant-loop-index : goal.invariant-loop-index
 invariant-loop-index l =
     record {
       rooms : l.frame.rooms ≡ rooms_by l.task.names;
-      holds : (ps : List tree.Param) → AreGiven l.task.names 0 ps l.params → Holds l.task.names (bound (drop l.index ps) (drop (offset_of l.index ps) l.args)) l.frame.slots;
+      holds : (ps : List tree.Param) → AreGiven l.task.names 0 ps l.params
+          → Holds l.task.names (bound (drop l.index ps) (drop (offset_of l.index ps) l.args)) l.frame.slots;
     }

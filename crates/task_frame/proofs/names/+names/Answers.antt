@@ -14,7 +14,9 @@ pub note_block-loop-stmt-preserved : goal.note_block-loop-stmt-preserved
 note_block-loop-stmt-preserved t c =
     let h = c.loop-stmt.invariant in
     let own = c.in_ok-note_stmt.ensures in
-    let g = block_step c.args.names.now.items c.loop-stmt.names.items c.note_stmt.new.names.items c.args.body.now c.loop-stmt.stmt-index c.stmt-item.result c.loop-stmt-test.true c.stmt-item.is (record { has = h.has; more = h.more }) own.has own.more in
+    let g =
+    block_step c.args.names.now.items c.loop-stmt.names.items c.note_stmt.new.names.items c.args.body.now c.loop-stmt.stmt-index c.stmt-item.result
+    c.loop-stmt-test.true c.stmt-item.is (record { has = h.has; more = h.more }) own.has own.more in
     record { has = g.has; more = g.more }
 
 pub note_stmt-returns-in_ok-note_block-in-If-clause-has : goal.note_stmt-returns-in_ok-note_block-in-If-clause-has
@@ -25,7 +27,8 @@ note_stmt-returns-in_ok-note_block-in-If-clause-has t c =
     ap stmt_tree (w.is ∙ ap (λ x. If w.field-0 x w.tail) (sym c.as_slice-in-If.ensures)) ∙ if_tree w.field-0 b w.tail in
     let last = c.note_tail.new.names.items in
     subst (λ s. OnOk c.note_tail.result (HasStmt last s)) (sym is)
-    (on_ok_weaker {P = (HasTail last (tail_tree w.tail) × Widens c.note_block.new.names.items last (words_of_tail (tail_tree w.tail)))} {Q = (HasBlock last (block_tree b) × HasTail last (tail_tree w.tail))} c.note_tail.result
+    (on_ok_weaker {P = (HasTail last (tail_tree w.tail) × Widens c.note_block.new.names.items last (words_of_tail (tail_tree w.tail)))} {Q =
+    (HasBlock last (block_tree b) × HasTail last (tail_tree w.tail))} c.note_tail.result
     (λ x. (block_stays c.note_block.new.names.items last (words_of_tail (tail_tree w.tail)) x.1 (block_tree b) c.in_ok-note_block-in-If.ensures.has, x.0))
     (both c.note_tail.result _ _ c.note_tail.ensures.has c.note_tail.ensures.more))
 
@@ -37,8 +40,10 @@ note_stmt-returns-in_ok-note_block-in-If-clause-more t c =
     ap stmt_tree (w.is ∙ ap (λ x. If w.field-0 x w.tail) (sym c.as_slice-in-If.ensures)) ∙ if_tree w.field-0 b w.tail in
     let last = c.note_tail.new.names.items in
     subst (λ s. OnOk c.note_tail.result (Widens c.args.names.now.items last (words_of_stmt s))) (sym is)
-    (on_ok_weaker {P = (Widens c.note_block.new.names.items last (words_of_tail (tail_tree w.tail)))} {Q = (Widens c.args.names.now.items last (words_of_block (block_tree b) + words_of_tail (tail_tree w.tail)))} c.note_tail.result
-    (widens_on c.args.names.now.items c.note_block.new.names.items last (words_of_block (block_tree b)) (words_of_tail (tail_tree w.tail)) c.in_ok-note_block-in-If.ensures.more)
+    (on_ok_weaker {P = (Widens c.note_block.new.names.items last (words_of_tail (tail_tree w.tail)))} {Q =
+    (Widens c.args.names.now.items last (words_of_block (block_tree b) + words_of_tail (tail_tree w.tail)))} c.note_tail.result
+    (widens_on c.args.names.now.items c.note_block.new.names.items last (words_of_block (block_tree b))
+    (words_of_tail (tail_tree w.tail)) c.in_ok-note_block-in-If.ensures.more)
     c.note_tail.ensures.more)
 
 pub note_stmt-returns-in-While-clause-has : goal.note_stmt-returns-in-While-clause-has
@@ -55,7 +60,8 @@ note_stmt-returns-in-While-clause-more t c =
     let b = c.as_slice-in-While.result.now in
     let is : stmt_tree c.args.stmt.now ≡ tree.While' (expr_tree w.field-0) (block_tree b) =
     ap stmt_tree (w.is ∙ ap (λ x. While w.field-0 x) (sym c.as_slice-in-While.ensures)) ∙ while_tree w.field-0 b in
-    subst (λ s. OnOk c.note_block-in-While.result (Widens c.args.names.now.items c.note_block-in-While.new.names.items (words_of_stmt s))) (sym is) c.note_block-in-While.ensures.more
+    subst (λ s. OnOk c.note_block-in-While.result (Widens c.args.names.now.items c.note_block-in-While.new.names.items (words_of_stmt s)))
+    (sym is) c.note_block-in-While.ensures.more
 
 pub note_tail-returns-in-Else-clause-has : goal.note_tail-returns-in-Else-clause-has
 note_tail-returns-in-Else-clause-has t c =

@@ -10,7 +10,8 @@ loop-param-preserved c =
     let own = c.in_ok-note.ensures in
     let p = c.param-item.result in
     let new = c.note.new.names.items in
-    let has : Has new p.name (room_of (type_tree p.kind)) = subst (λ w. Has new w (room_of (type_tree p.kind))) c.as_slice.ensures (subst (λ n. Has new c.as_slice.result.now n) c.room_for.ensures own.has) in
+    let has : Has new p.name (room_of (type_tree p.kind)) =
+    subst (λ w. Has new w (room_of (type_tree p.kind))) c.as_slice.ensures (subst (λ n. Has new c.as_slice.result.now n) c.room_for.ensures own.has) in
     record {
       has = params_step c.loop-param.names.items new c.args.params.now c.loop-param.param-index p c.loop-param-test.true c.param-item.is h.has has own.more;
       more = widens_on c.args.names.now.items c.loop-param.names.items new c.loop-param.param-index 1 h.more own.more;

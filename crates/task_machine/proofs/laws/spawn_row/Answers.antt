@@ -9,8 +9,16 @@ last = machine_after spawn_program (opening spawn_program) spawn_history
 
 leads : Leads spawn_program (opening spawn_program) spawn_history last
 leads =
-    leads_all spawn_program (opening spawn_program) spawn_history
-    ((refl, refl, refl, refl, refl, (refl, refl, refl)), ((refl, refl, refl, refl, refl, tt), ((refl, refl, refl, refl, refl, tt), ((refl, refl, refl, refl, refl, tt), ((refl, refl, refl, refl, refl, (refl, (refl, tt))), ((refl, refl, refl, refl, refl, tt), tt))))))
+    leads_all spawn_program (opening spawn_program) spawn_history (
+      (refl, refl, refl, refl, refl, (refl, refl, refl)),
+      (
+        (refl, refl, refl, refl, refl, tt),
+        (
+          (refl, refl, refl, refl, refl, tt),
+          ((refl, refl, refl, refl, refl, tt), ((refl, refl, refl, refl, refl, (refl, (refl, tt))), ((refl, refl, refl, refl, refl, tt), tt))),
+        ),
+      ),
+    )
 
 pub returns : goal.returns
 returns c = record { legal = (last, leads); whole = (last, leads, (refl, (refl, tt))) }

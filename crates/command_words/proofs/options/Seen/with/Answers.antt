@@ -9,7 +9,9 @@ pub returns-else-self-2 : goal.returns-else-self-2
 returns-else-self-2 c = λ unnamed cs s. rw c.in-Brief.is (seen_brief unnamed cs c.args.self _ s c.if-self-2.false refl refl refl refl refl refl)
 
 pub returns-else-self-3 : goal.returns-else-self-3
-returns-else-self-3 c = λ unnamed cs s. rw c.in-Workers.is (seen_workers unnamed cs c.args.self _ c.in-Workers.crew s c.if-self-3.false refl refl refl refl refl refl)
+returns-else-self-3 c = λ unnamed cs s. rw c.in-Workers.is
+    (seen_workers unnamed cs c.args.self _ c.in-Workers.crew s c.if-self-3.false refl refl refl refl refl refl)
 
 pub returns-else-is_some : goal.returns-else-is_some
-returns-else-is_some c = λ unnamed cs s. rw c.in-Side.is (seen_side unnamed cs c.args.self _ c.in-Side.side s (sym c.is_some.ensures ∙ c.if-is_some.false) refl refl refl refl refl refl)
+returns-else-is_some c = λ unnamed cs s. rw c.in-Side.is
+    (seen_side unnamed cs c.args.self _ c.in-Side.side s (sym c.is_some.ensures ∙ c.if-is_some.false) refl refl refl refl refl refl)

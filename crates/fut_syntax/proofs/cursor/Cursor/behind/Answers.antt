@@ -7,4 +7,5 @@ use Rattle.fut_syntax.proofs.cursor.Cursor.behind.Goals as goal
 pub returns-clause-count : goal.returns-clause-count
 returns-clause-count c =
     let n = length_behind c.self.inside.tokens.items c.self.inside.at in
-    subst (λ (xs : List Token). c.len.result - c.self.inside.at - 1 ≡ length (behind xs)) c.self.view_is (omega (arith, n, c.self.inside.tokens.ok, c.len.ensures))
+    subst (λ (xs : List Token). c.len.result - c.self.inside.at - 1 ≡ length (behind xs)) c.self.view_is
+    (omega (arith, n, c.self.inside.tokens.ok, c.len.ensures))

@@ -8,7 +8,8 @@ use Rattle.fut_syntax.proofs.cursor.Cursor.bump.Goals as goal
 pub invariant_of-self : goal.invariant_of-self
 invariant_of-self c =
     let e = drop_behind c.self.inside.at c.self.inside.tokens.items in
-    let old : is_end (front (drop c.self.inside.at c.self.inside.tokens.items)) ≡ false = subst (λ (q : List Token). is_end (front q) ≡ false) (sym c.self.view_is) c.requires in
+    let old : is_end (front (drop c.self.inside.at c.self.inside.tokens.items)) ≡ false =
+    subst (λ (q : List Token). is_end (front q) ≡ false) (sym c.self.view_is) c.requires in
     subst IsEnded (sym e) (ended_behind (drop c.self.inside.at c.self.inside.tokens.items) c.self.invariant old)
 
 pub returns : goal.returns

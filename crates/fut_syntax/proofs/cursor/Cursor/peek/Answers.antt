@@ -6,8 +6,10 @@ use Rattle.fut_syntax.proofs.cursor.Cursor.peek.Goals as goal
 
 pub returns-clause-front : goal.returns-clause-front
 returns-clause-front c =
-    subst (λ (xs : List Token). xs ≡ c.index.result.now ∷ behind xs) c.self.view_is (in_view c.self.inside.tokens.items c.self.inside.at c.index.result.now c.self.invariant c.index.ensures)
+    subst (λ (xs : List Token). xs ≡ c.index.result.now ∷ behind xs) c.self.view_is
+    (in_view c.self.inside.tokens.items c.self.inside.at c.index.result.now c.self.invariant c.index.ensures)
 
 pub returns-clause-last : goal.returns-clause-last
 returns-clause-last c =
-    λ q. subst (λ (xs : List Token). behind xs ≡ []) c.self.view_is (peek_last c.self.inside.tokens.items c.self.inside.at c.index.result.now c.self.invariant c.index.ensures q)
+    λ q. subst (λ (xs : List Token). behind xs ≡ []) c.self.view_is
+    (peek_last c.self.inside.tokens.items c.self.inside.at c.index.result.now c.self.invariant c.index.ensures q)

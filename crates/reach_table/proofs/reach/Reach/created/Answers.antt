@@ -7,7 +7,8 @@ use Rattle.reach_table.specs.Blocks.{flat, values}
 use Rattle.reach_table.proofs.Events.{kid_after_create}
 use Rattle.reach_table.proofs.reach.Reach.created.Goals as goal
 
-iff : (c : goal.After-made) → (table : List Strand) → table ≡ flat (values c.in_ok-blocks.blocks.items) → (w : Strand) → Among w table ↔ Among w (c.args.self.now ++ c.args.from ∷ [])
+iff : (c : goal.After-made) → (table : List Strand) → table ≡ flat (values c.in_ok-blocks.blocks.items) → (w : Strand) → Among w table
+    ↔ Among w (c.args.self.now ++ c.args.from ∷ [])
 iff c table is =
     let P : List Strand → Type 0 = λ t. (w : Strand) → Among w t ↔ Among w (c.args.self.now ++ c.args.from ∷ []) in
     let Q : List Strand → Type 0 = λ t. (w : Strand) → Among w (flat (values c.in_ok-blocks.blocks.items)) ↔ Among w (t ++ c.args.from ∷ []) in

@@ -9,7 +9,9 @@ use Rattle.reach_table.proofs.reach.Reach.try_reaches.Goals as goal
 
 pub returns-then-u-v-clause-tells : goal.returns-then-u-v-clause-tells
 returns-then-u-v-clause-tells g c =
-    IfOk-weaker c.is_or_precedes.result _ _ (λ answer iff. tells_inside c.args.self.now c.args.u c.args.v (g.J.Judge.known c.args.judge.now) (g.J.Judge.english c.args.judge.now) (g.J.Judge.hebrew c.args.judge.now) answer c.if-u-v.true c.requires.u_known c.requires.v_known iff) c.is_or_precedes.ensures.tells
+    IfOk-weaker c.is_or_precedes.result _ _
+    (λ answer iff. tells_inside c.args.self.now c.args.u c.args.v (g.J.Judge.known c.args.judge.now) (g.J.Judge.english c.args.judge.now)
+    (g.J.Judge.hebrew c.args.judge.now) answer c.if-u-v.true c.requires.u_known c.requires.v_known iff) c.is_or_precedes.ensures.tells
 
 pub reaches_one-requires-clause-strands_known : goal.reaches_one-requires-clause-strands_known
 reaches_one-requires-clause-strands_known g c = λ w a.
@@ -21,7 +23,9 @@ returns-clause-tells g c =
     let group = c.strands_of_future.result.now in
     let P : List Strand → Type 0 = λ l. (w : Strand) → Among w group ↔ (Among w l × (w.future ≡ c.args.u.future)) in
     let mine : P c.args.self.now = subst P c.blocks-2.ensures.strands c.strands_of_future.ensures.strands in
-    IfOk-weaker c.reaches_one.result _ _ (λ answer iff. tells_across c.args.self.now group c.args.u c.args.v (g.J.Judge.known c.args.judge.now) (g.J.Judge.english c.args.judge.now) (g.J.Judge.hebrew c.args.judge.now) answer c.if-u-v.false c.requires.u_known c.requires.table_known mine iff) c.reaches_one.ensures.tells
+    IfOk-weaker c.reaches_one.result _ _
+    (λ answer iff. tells_across c.args.self.now group c.args.u c.args.v (g.J.Judge.known c.args.judge.now) (g.J.Judge.english c.args.judge.now)
+    (g.J.Judge.hebrew c.args.judge.now) answer c.if-u-v.false c.requires.u_known c.requires.table_known mine iff) c.reaches_one.ensures.tells
 
 pub returns-then-u-v-clause-asks : goal.returns-then-u-v-clause-asks
 returns-then-u-v-clause-asks g c = λ _. c.is_or_precedes.ensures.asks

@@ -6,7 +6,9 @@ use Rattle.run_record.proofs.Cursors.{bytes_short, bytes_taken}
 use Rattle.run_record.proofs.cursor.Cursor.take.Goals as goal
 
 pub returns-then-count-self : goal.returns-then-count-self
-returns-then-count-self c = subst (λ (q : List ℕ). Stops (bytes_due c.args.count) q [] stop.Fault) c.self.view_is (bytes_short c.args.count c.self.inside.left.now [] c.if-count-self.true refl)
+returns-then-count-self c =
+    subst (λ (q : List ℕ). Stops (bytes_due c.args.count) q [] stop.Fault) c.self.view_is
+    (bytes_short c.args.count c.self.inside.left.now [] c.if-count-self.true refl)
 
 pub returns : goal.returns
 returns c =

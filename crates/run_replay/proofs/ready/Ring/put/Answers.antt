@@ -49,5 +49,7 @@ returns c = λ order s.
     let count = s.ring.prevs_count in
     let read = slice_get_read l.prevs (length l.prevs) (t + 1) back refl (omega (arith, lt, count)) c.index-back.ensures in
     let ring = put_ring l t child back order s read in
-    subst (λ ns. IsRing (child + 1) (put_before t child order) (record { nexts = ns; prevs = c.push_reserved-2.new.self.items })) (sym c.push_reserved.ensures.items)
-    (subst (λ ps. IsRing (child + 1) (put_before t child order) (record { nexts = slice_set l.nexts back (child + 1) ++ (t + 1) ∷ []; prevs = ps })) (sym c.push_reserved-2.ensures.items) ring)
+    subst (λ ns. IsRing (child + 1) (put_before t child order) (record { nexts = ns; prevs = c.push_reserved-2.new.self.items }))
+    (sym c.push_reserved.ensures.items)
+    (subst (λ ps. IsRing (child + 1) (put_before t child order) (record { nexts = slice_set l.nexts back (child + 1) ++ (t + 1) ∷ []; prevs = ps }))
+    (sym c.push_reserved-2.ensures.items) ring)

@@ -6,7 +6,7 @@ use Rattle.task_machine.specs.Runs.{StandsAt}
 use Rattle.run_replay.specs.Replays.{ReplayNow, StillAt, IsReplayOf}
 use Rattle.run_replay.proofs.Lining.{task_of_line}
 use Rattle.task_code.specs.Tasks.{IsStill}
-use Rattle.run_replay.specs.declared.line.Line.{Line}
+use Rattle.run_replay.specs.declared.line.TaskLine.{TaskLine}
 use Rattle.run_replay.proofs.replay.Replay.args.Goals as goal
 
 pub args-requires-clause-still : goal.args-requires-clause-still
@@ -16,7 +16,7 @@ args-requires-clause-still c =
     let t = c.args.task in
     let still = subst (λ (v : ReplayNow). StillAt c.args.code.now v.lines t) (sym c.self.view_is) c.requires.still in
     let present = slice_get_read lines (length lines) t x refl (get_below lines t still.0 still.1) c.index.ensures in
-    subst (λ (l : Line). IsStill c.args.code.now l.task) (same_Some still.0 x (sym still.1 ∙ present)) still.3
+    subst (λ (l : TaskLine). IsStill c.args.code.now l.task) (same_Some still.0 x (sym still.1 ∙ present)) still.3
 
 pub returns : goal.returns
 returns c = λ P h m r stop which args k is at wish.

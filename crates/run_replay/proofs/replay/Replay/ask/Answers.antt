@@ -3,7 +3,7 @@ use Rattle.std.specs.Prelude.{slice_set}
 use Rattle.std.proofs.lemmas.Option.{slice_get_read}
 use Rattle.task_machine.proofs.Places.{get_below}
 use Rattle.run_replay.specs.contracts.replay.Replay.{the_view}
-use Rattle.run_replay.specs.declared.line.Line.{Line}
+use Rattle.run_replay.specs.declared.line.TaskLine.{TaskLine}
 use Rattle.run_replay.specs.Ready.{links_of}
 use Rattle.run_replay.specs.Replays.{ReplayNow, RunsAt, StandsStill, IsSomeReplay, IsReplayOf}
 use Rattle.run_replay.proofs.Lining.{get_set_here}
@@ -28,8 +28,10 @@ returns-clause-still c =
     let running = subst (λ (v : ReplayNow). RunsAt v.lines t) (sym c.self.view_is) c.requires.running in
     let present = slice_get_read lines (length lines) t x refl (get_below lines t running.0 running.1) c.index_mut-line.ensures.value in
     let task = c.advance.ensures in
-    let y : Line = record { task = c.advance.new.self; strand = x.strand; future = x.future; block = x.block; value = x.value } in
-    let new : ReplayNow = (now_of (slice_set lines t y) c.self.inside.cells.items (links_of c.self.inside.ready) c.self.inside.entries c.self.inside.creates c.self.inside.strands c.self.inside.finder) in
+    let y : TaskLine = record { task = c.advance.new.self; strand = x.strand; future = x.future; block = x.block; value = x.value } in
+    let new : ReplayNow =
+    (now_of (slice_set lines t y) c.self.inside.cells.items
+    (links_of c.self.inside.ready) c.self.inside.entries c.self.inside.creates c.self.inside.strands c.self.inside.finder) in
     subst (λ v. StandsStill c.args.code.now v new) c.self.view_is
     (still_by c.args.code.now (the_view c.self.inside) new t
     (record {
@@ -38,7 +40,12 @@ returns-clause-still c =
       present = present;
       is = refl;
       keeps = record {
-        task = record { which = task.task.1; ended = task.task.2 ∙ sym (still_runs lines t x running present); state = λ P w of args s h. task.state P args s of h };
+        task =
+            record {
+              which = task.task.1;
+              ended = task.task.2 ∙ sym (still_runs lines t x running present);
+              state = λ P w of args s h. task.state P args s of h;
+            };
         strand = refl;
         future = refl;
         block = refl;
@@ -68,5 +75,9 @@ pub returns-clause-stands : goal.returns-clause-stands
 returns-clause-stands c = λ event.
     let lines = c.self.inside.lines.items in
     let t = c.args.task in
-    let running = subst (λ (v : ReplayNow). RunsAt v.lines t) (sym c.self.view_is) c.requires.running in
-    (_, get_set_here lines t _ (get_below lines t running.0 running.1), c.advance.ensures.task.2, stops_still c.args.code.now c.advance.new.self c.advance.result c.advance.ensures.stops event)
+    let running = subst (λ (v : ReplayNow). RunsAt v.lines t) (sym c.self.view_is) c.requires.running in (
+      _,
+      get_set_here lines t _ (get_below lines t running.0 running.1),
+      c.advance.ensures.task.2,
+      stops_still c.args.code.now c.advance.new.self c.advance.result c.advance.ensures.stops event,
+    )

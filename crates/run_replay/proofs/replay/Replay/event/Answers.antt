@@ -19,7 +19,8 @@ returns-in-Some c = λ P h m k.
     let code = c.args.code.now in
     let r = running_task P code h c.args.self.now m t k (sym c.runs.ensures ∙ c.if-not-runs.false) in
     let still = c.ask-wish.ensures.still P h m k in
-    bar_next P code c.args.limits h m t c.ask-wish.new.self c.in-Some.next still (c.in-Some.ensures P code h m r.0 still r.1 (c.ask-wish.ensures.wish P h m r.0 k r.1.0))
+    bar_next P code c.args.limits h m t c.ask-wish.new.self c.in-Some.next still
+    (c.in-Some.ensures P code h m r.0 still r.1 (c.ask-wish.ensures.wish P h m r.0 k r.1.0))
 
 pub go-requires-clause-event : goal.go-requires-clause-event
 go-requires-clause-event c =

@@ -23,4 +23,6 @@ act_of-requires-clause-known c =
 pub returns-clause-made : goal.returns-clause-made
 returns-clause-made c = λ P h m r k run w free.
     let can = c.in_ok-act.ensures P h m r k run.0 w free in
-    if_ok _ _ _ (λ entry taken. goes P c.args.code.now h m c.args.self.now c.take.new.self c.args.task c.args.wish (action_of c.in_ok-act.act) (event_of entry) r k run w can c.requires.still taken) c.take.ensures.taken
+    if_ok _ _ _
+    (λ entry taken. goes P c.args.code.now h m c.args.self.now c.take.new.self c.args.task c.args.wish (action_of c.in_ok-act.act)
+    (event_of entry) r k run w can c.requires.still taken) c.take.ensures.taken

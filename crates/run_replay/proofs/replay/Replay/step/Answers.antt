@@ -11,10 +11,13 @@ use Rattle.run_replay.proofs.replay.Replay.step.Goals.{in-Ok-take, in-Err}
 use Rattle.std.proofs.lemmas.Bool.{false≢true}
 
 pub returns-then-not-runs : goal.returns-then-not-runs
-returns-then-not-runs c = λ P h m k. (none_runs P c.args.code.now h c.args.self.now m k (event_of c.args.entry.now) (sym c.runs.ensures ∙ c.if-not-runs.true), k)
+returns-then-not-runs c =
+    λ P h m k. (none_runs P c.args.code.now h c.args.self.now m k (event_of c.args.entry.now) (sym c.runs.ensures ∙ c.if-not-runs.true), k)
 
 pub returns-then-not-is_on : goal.returns-then-not-is_on
-returns-then-not-is_on c = λ P h m k. (other_strand P c.args.code.now h c.args.self.now m k (event_of c.args.entry.now) (λ on. false≢true (sym c.if-not-is_on.true ∙ c.is_on.ensures.1 on)), k)
+returns-then-not-is_on c =
+    λ P h m k.
+    (other_strand P c.args.code.now h c.args.self.now m k (event_of c.args.entry.now) (λ on. false≢true (sym c.if-not-is_on.true ∙ c.is_on.ensures.1 on)), k)
 
 pub ask-wish-requires-clause-running : goal.ask-wish-requires-clause-running
 ask-wish-requires-clause-running c = runs_at c.args.code.now c.args.self.now c.args.entry.now.task c.requires.known (sym c.runs.ensures ∙ c.if-not-runs.false)
@@ -22,8 +25,10 @@ ask-wish-requires-clause-running c = runs_at c.args.code.now c.args.self.now c.a
 pub returns-then-is_long : goal.returns-then-is_long
 returns-then-is_long c = λ P h m k.
     let r = running_task P c.args.code.now h c.args.self.now m c.args.entry.now.task k (sym c.runs.ensures ∙ c.if-not-runs.false) in
-    let w = c.ask-wish.ensures.wish P h m r.0 k r.1.0 in
-    (too_long P m (event_of c.args.entry.now) r.0 r.1 (subst (λ z. Wishes P MOST_LOCAL_STEPS r.0.state z) (c.is_long.ensures.long c.if-is_long.true) w), c.ask-wish.ensures.still P h m k)
+    let w = c.ask-wish.ensures.wish P h m r.0 k r.1.0 in (
+      too_long P m (event_of c.args.entry.now) r.0 r.1 (subst (λ z. Wishes P MOST_LOCAL_STEPS r.0.state z) (c.is_long.ensures.long c.if-is_long.true) w),
+      c.ask-wish.ensures.still P h m k,
+    )
 
 pub waits-requires : goal.waits-requires
 waits-requires c = let l = c.ask-wish.ensures.running in record { exists = get_below _ _ _ l.1 }
@@ -43,8 +48,11 @@ returns-then-not-same_act c = λ P h m k.
     let r = running_task P c.args.code.now h c.args.self.now m c.args.entry.now.task k (sym c.runs.ensures ∙ c.if-not-runs.false) in
     let w = c.ask-wish.ensures.wish P h m r.0 k r.1.0 in
     let still = c.ask-wish.ensures.still P h m k in
-    let can = c.in-Ok.ensures P h m r.0 still r.1.0 w (c.in_default.ensures P c.args.code.now h m r.0 still r.1.0) in
-    (other_action P m (event_of c.args.entry.now) r.0 (action_of c.in-Ok.act) r.1 can (λ same. false≢true (sym c.if-not-same_act.true ∙ c.same_act.ensures.1 same)), still)
+    let can = c.in-Ok.ensures P h m r.0 still r.1.0 w (c.in_default.ensures P c.args.code.now h m r.0 still r.1.0) in (
+      other_action P m (event_of c.args.entry.now) r.0 (action_of c.in-Ok.act) r.1 can
+          (λ same. false≢true (sym c.if-not-same_act.true ∙ c.same_act.ensures.1 same)),
+      still,
+    )
 
 pub take-requires-clause-legal : goal.take-requires-clause-legal
 take-requires-clause-legal c =
@@ -73,6 +81,7 @@ returns c = λ P h m k.
     elim c.match-take.branch [
       | in-Ok-take b ↦
           subst (λ z. IsStepped P c.args.code.now h m e c.take.new.self z) (sym b.result-is)
-          (has_made P c.args.code.now h m c.args.self.now c.ask-wish.new.self c.take.new.self e (event_of b.in-Ok-take.field-0) a r.0 k still r.1 (c.is_on.ensures.0 c.if-not-is_on.false) stands can (c.same_act.ensures.0 c.if-not-same_act.false) b.in-Ok-take.ensures.taken)
+          (has_made P c.args.code.now h m c.args.self.now c.ask-wish.new.self c.take.new.self e (event_of b.in-Ok-take.field-0) a r.0 k still r.1
+          (c.is_on.ensures.0 c.if-not-is_on.false) stands can (c.same_act.ensures.0 c.if-not-same_act.false) b.in-Ok-take.ensures.taken)
       | in-Err b ↦ subst (λ z. IsStepped P c.args.code.now h m e c.take.new.self z) (sym b.result-is) (b.in-Err.ensures.unchanged P h m still)
     ]

@@ -27,8 +27,10 @@ returns-in-Some c = λ P code h m r k is.
 
 pub returns-in-Some-value_of : goal.returns-in-Some-value_of
 returns-in-Some-value_of c = λ P code h m r k is.
-    subst (λ w. IsFree m r w) (sym c.in-Get.is) (free_get P code h c.args.self.now m k c.in-Get.future c.in-Some-value_of.field-0 (sym c.value_of.ensures ∙ c.in-Some-value_of.is))
+    subst (λ w. IsFree m r w) (sym c.in-Get.is)
+    (free_get P code h c.args.self.now m k c.in-Get.future c.in-Some-value_of.field-0 (sym c.value_of.ensures ∙ c.in-Some-value_of.is))
 
 pub returns-in-None-value_of : goal.returns-in-None-value_of
 returns-in-None-value_of c = λ P code h m r k is.
-    subst (λ w. IsBarred m r w (Some c.in-Get.future)) (sym c.in-Get.is) (refl, barred_get P code h c.args.self.now m k c.in-Get.future (sym c.value_of.ensures ∙ c.in-None-value_of.is))
+    subst (λ w. IsBarred m r w (Some c.in-Get.future)) (sym c.in-Get.is)
+    (refl, barred_get P code h c.args.self.now m k c.in-Get.future (sym c.value_of.ensures ∙ c.in-None-value_of.is))

@@ -12,7 +12,8 @@ returns-in-Some-clause-spawn c = λ P given s t which args is x at w.
     let now : TaskNow = record { number = i.number; which = i.which; spot = i.spot; held = i.frame; trace = i.trace } in
     let there : instruction_of code now ≡ Some c.in-Some.instruction.now = sym c.instruction.ensures ∙ ap option_copied c.in-Some.is in
     let same : passed_by i.frame.slots (Some c.in-Some.instruction.now) ≡ args =
-    sym (ap (passed_by i.frame.slots) there) ∙ ap (λ (q : TaskNow). passed_by q.held.slots (instruction_of code q)) c.self.view_is ∙ passes P code given c.args.self.now s t which args is c.requires.running x c.requires.still at (inl w) in
+    sym (ap (passed_by i.frame.slots) there) ∙ ap (λ (q : TaskNow). passed_by q.held.slots (instruction_of code q)) c.self.view_is
+    ∙ passes P code given c.args.self.now s t which args is c.requires.running x c.requires.still at (inl w) in
     subst (λ xs. IfOk c.passed.result (λ a. a.items ≡ xs)) same c.passed.ensures
 
 pub returns-in-Some-clause-create : goal.returns-in-Some-clause-create
@@ -22,7 +23,8 @@ returns-in-Some-clause-create c = λ P given s t which args is x at w.
     let now : TaskNow = record { number = i.number; which = i.which; spot = i.spot; held = i.frame; trace = i.trace } in
     let there : instruction_of code now ≡ Some c.in-Some.instruction.now = sym c.instruction.ensures ∙ ap option_copied c.in-Some.is in
     let same : passed_by i.frame.slots (Some c.in-Some.instruction.now) ≡ args =
-    sym (ap (passed_by i.frame.slots) there) ∙ ap (λ (q : TaskNow). passed_by q.held.slots (instruction_of code q)) c.self.view_is ∙ passes P code given c.args.self.now s t which args is c.requires.running x c.requires.still at (inr w) in
+    sym (ap (passed_by i.frame.slots) there) ∙ ap (λ (q : TaskNow). passed_by q.held.slots (instruction_of code q)) c.self.view_is
+    ∙ passes P code given c.args.self.now s t which args is c.requires.running x c.requires.still at (inr w) in
     subst (λ xs. IfOk c.passed.result (λ a. a.items ≡ xs)) same c.passed.ensures
 
 pub returns-in-None-clause-spawn : goal.returns-in-None-clause-spawn
@@ -31,7 +33,9 @@ returns-in-None-clause-spawn c = λ P given s t which args is x at w.
     let code = c.args.code.now in
     let now : TaskNow = record { number = i.number; which = i.which; spot = i.spot; held = i.frame; trace = i.trace } in
     let there : instruction_of code now ≡ None = sym c.instruction.ensures ∙ ap option_copied c.in-None.is in
-    ap (λ l. l.items) c.make.ensures ∙ sym (ap (passed_by i.frame.slots) there) ∙ ap (λ (q : TaskNow). passed_by q.held.slots (instruction_of code q)) c.self.view_is ∙ passes P code given c.args.self.now s t which args is c.requires.running x c.requires.still at (inl w)
+    ap (λ l. l.items) c.make.ensures ∙ sym (ap (passed_by i.frame.slots) there)
+    ∙ ap (λ (q : TaskNow). passed_by q.held.slots (instruction_of code q)) c.self.view_is
+    ∙ passes P code given c.args.self.now s t which args is c.requires.running x c.requires.still at (inl w)
 
 pub returns-in-None-clause-create : goal.returns-in-None-clause-create
 returns-in-None-clause-create c = λ P given s t which args is x at w.
@@ -39,4 +43,6 @@ returns-in-None-clause-create c = λ P given s t which args is x at w.
     let code = c.args.code.now in
     let now : TaskNow = record { number = i.number; which = i.which; spot = i.spot; held = i.frame; trace = i.trace } in
     let there : instruction_of code now ≡ None = sym c.instruction.ensures ∙ ap option_copied c.in-None.is in
-    ap (λ l. l.items) c.make.ensures ∙ sym (ap (passed_by i.frame.slots) there) ∙ ap (λ (q : TaskNow). passed_by q.held.slots (instruction_of code q)) c.self.view_is ∙ passes P code given c.args.self.now s t which args is c.requires.running x c.requires.still at (inr w)
+    ap (λ l. l.items) c.make.ensures ∙ sym (ap (passed_by i.frame.slots) there)
+    ∙ ap (λ (q : TaskNow). passed_by q.held.slots (instruction_of code q)) c.self.view_is
+    ∙ passes P code given c.args.self.now s t which args is c.requires.running x c.requires.still at (inr w)

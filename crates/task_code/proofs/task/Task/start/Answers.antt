@@ -14,4 +14,5 @@ returns-clause-state c = λ P is fit.
     let spot : ℕ → Spot = λ n. record { place = n; is_open = false; ended = false; steps = 0 } in
     let now : TaskNow = record { number = c.args.number; which = c.args.which; spot = spot c.entry.result; held = frame; trace = c.make.result } in
     begins P c.args.code.now c.args.args.now.items now is fit (ap spot c.entry.ensures) (ap (λ t. t.items) c.make.ensures) c.in_ok-frame.ensures.rooms
-    (λ ps given. subst (λ (xs : List Value). Holds (code_of c.args.code.now.tasks c.args.which).names (bound ps xs) frame.slots) c.as_slice.ensures (c.in_ok-frame.ensures.holds ps given))
+    (λ ps given. subst (λ (xs : List Value). Holds (code_of c.args.code.now.tasks c.args.which).names (bound ps xs) frame.slots) c.as_slice.ensures
+    (c.in_ok-frame.ensures.holds ps given))

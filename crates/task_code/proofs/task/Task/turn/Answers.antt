@@ -18,6 +18,7 @@ unreachable-requires c =
     let still : IsStill code now = ap (moves i.frame) there ∙ moved.0 in
     let none : wished c.arrays.result.now c.step.new.frame.slots i.spot.is_open (Some c.in-Some.instruction.now) ≡ NoWish = c.in-None-wish.ensures in
     let none' : wished code.arrays i.frame.slots i.spot.is_open (instruction_of code now) ≡ NoWish =
-    ap (wished code.arrays i.frame.slots i.spot.is_open) there ∙ ap (λ xs. wished xs i.frame.slots i.spot.is_open (Some c.in-Some.instruction.now)) (sym c.arrays.ensures)
+    ap (wished code.arrays i.frame.slots i.spot.is_open) there ∙ ap (λ xs. wished xs i.frame.slots i.spot.is_open (Some c.in-Some.instruction.now))
+    (sym c.arrays.ensures)
     ∙ ap (λ (f : Held). wished c.arrays.result.now f.slots i.spot.is_open (Some c.in-Some.instruction.now)) (sym moved.1) ∙ none in
     never_stuck some.0 code some.1 now some.2 some.3 (ap (λ (t : TaskNow). t.spot.ended) c.self.view_is ∙ c.requires.running) some.4 still none'

@@ -11,7 +11,9 @@ pub loop-index-preserved : goal.loop-index-preserved
 loop-index-preserved c =
     let h = c.loop-index.invariant.slots in
     record {
-      slots = copy_step c.args.self.now.slots c.loop-index.self.slots c.set_element.new.self.slots c.args.variable c.loop-index.index c.args.values.now h.0 _ c.loop-index-test.true (any_default c.args.values.now c.loop-index.index _ _ c.loop-index-test.true) h.1 h.2 c.set_element.ensures.slots;
+      slots =
+          copy_step c.args.self.now.slots c.loop-index.self.slots c.set_element.new.self.slots c.args.variable c.loop-index.index c.args.values.now h.0 _
+          c.loop-index-test.true (any_default c.args.values.now c.loop-index.index _ _ c.loop-index-test.true) h.1 h.2 c.set_element.ensures.slots;
       rooms = c.set_element.ensures.rooms ∙ c.loop-index.invariant.rooms;
     }
 

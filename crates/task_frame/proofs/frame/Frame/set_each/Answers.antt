@@ -11,7 +11,9 @@ pub loop-index-preserved : goal.loop-index-preserved
 loop-index-preserved c =
     let h = c.loop-index.invariant.slots in
     record {
-      slots = each_step c.args.self.now.slots c.loop-index.self.slots c.set_element.new.self.slots c.args.variable c.loop-index.index c.args.count c.args.value h.0 c.loop-index-test.true h.1 h.2 c.set_element.ensures.slots;
+      slots =
+          each_step c.args.self.now.slots c.loop-index.self.slots c.set_element.new.self.slots c.args.variable c.loop-index.index c.args.count c.args.value
+          h.0 c.loop-index-test.true h.1 h.2 c.set_element.ensures.slots;
       rooms = c.set_element.ensures.rooms ∙ c.loop-index.invariant.rooms;
     }
 

@@ -7,6 +7,7 @@ use Rattle.task_frame.proofs.frame.Frame.set_each.Given as goal
 abbrev pub invariant-loop-index : goal.invariant-loop-index
 invariant-loop-index l =
     record {
-      slots : (vs : List Value) × (length vs + l.index ≡ l.count) × (l.self.slots ≡ slice_set l.fn.self.slots l.variable (Many (replicate l.index l.value ++ vs)));
+      slots : (vs : List Value) × (length vs + l.index ≡ l.count)
+          × (l.self.slots ≡ slice_set l.fn.self.slots l.variable (Many (replicate l.index l.value ++ vs)));
       rooms : l.self.rooms ≡ l.fn.self.rooms;
     }
