@@ -5,7 +5,6 @@ use Rattle.std.specs.declared.vec.IntoIter.{IntoIter}
 use Rattle.std.specs.Vec.Iter.{into_iter_items}
 use Rattle.std.specs.declared.io.Error.{Error}
 use Rattle.std.specs.declared.io.ErrorKind.TheVariants.{OutOfMemory}
-use Rattle.std.specs.Io.KnownBytes.{Keeps}
 use Rattle.std.specs.IoError.{error_kind}
 use Rattle.fut_base.specs.declared.event.Event.{Event}
 use Rattle.fut_base.specs.Ports.{Writes}
@@ -35,12 +34,12 @@ IsRefusal t due s h = (h ≡ []) ×
     (((s ≡ due) × Writes t.held_before t.held_after t.faults_before t.faults_after (due_text due []) wrote.All)
     ⊎ ((s ≡ status.WriteFault) × Writes t.held_before t.held_after t.faults_before t.faults_after (due_text due []) wrote.Failed))
 
--- what comes of a command line: its words are answered; where it has none, that is usage; where there was no memory for them, nothing
--- is written
+-- what comes of a command line: its words are answered; where it has none, that is usage, or, where there was no memory for them, want
+-- of memory
 abbrev pub IsLineAnswer : CommandLine → (List (List ℕ) → Asked) → Told → Status → List Event → Type 0
 IsLineAnswer (line.Words words) a t s h = IsAnswer (a words) t s h
 IsLineAnswer line.Foreign a t s h = IsRefusal t status.Usage s h
-IsLineAnswer line.NoMemory a t s h = (s ≡ status.NoMemory) × (h ≡ []) × Keeps t.held_before t.held_after × (t.faults_after ≡ t.faults_before)
+IsLineAnswer line.NoMemory a t s h = IsRefusal t status.NoMemory s h
 
 -- the process ends with the number of the status that comes of its command line
 abbrev pub EndsWith : CommandLine → (List (List ℕ) → Asked) → Told → ℕ → Type 0

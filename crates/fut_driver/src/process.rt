@@ -12,7 +12,6 @@ use crate::status::{Ended, Status};
 use crate::top::forder;
 use fut_base::gate::Gate;
 use fut_base::ports::{Sink, Source, Wrote};
-use fut_base::record::History;
 use std::alloc::Global;
 use std::env::Args;
 use std::io;
@@ -21,8 +20,8 @@ use std::sync::Wait;
 use std::thread::Threads;
 
 /// Does what the command line asks for, and gives the number of the status. The first word is the program's name. Where a word is
-/// not UTF-8 the status is `Usage`, and the line of that status is written; where there was no memory for the words it is `NoMemory`, and
-/// nothing is written. In both cases nothing is read.
+/// not UTF-8 the status is `Usage`, and where there was no memory for the words it is `NoMemory`. In both cases the line of that status is
+/// written, and nothing is read.
 pub fn carry_out<R: Threads + Wait + Sync, S: Source, K: Sink, G: Gate + Sync>(
     rt: &R,
     alloc: Global,
@@ -61,10 +60,7 @@ pub fn answer_line<R: Threads + Wait + Sync, S: Source, K: Sink, G: Gate + Sync>
     match line {
         CommandLine::Words(words) => forder(rt, alloc, words, source, out, gate),
         CommandLine::Foreign => refuse(alloc, Status::Usage, out),
-        CommandLine::NoMemory => Ended {
-            status: Status::NoMemory,
-            history: History::make(alloc),
-        },
+        CommandLine::NoMemory => refuse(alloc, Status::NoMemory, out),
     }
 }
 

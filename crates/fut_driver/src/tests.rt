@@ -1,4 +1,5 @@
 //! Calls by words over a source and a sink in memory.
+mod bounds;
 mod forms;
 mod guide;
 mod lengths;
@@ -46,6 +47,10 @@ pub const RACE_RECORD: &str =
 /// The record of the run without it.
 pub const SYNC_RECORD: &str =
     "forder 1\nprogram 110\ncells a[1];\ntask kid() int { a[0] = 1; return 0; }\ntask main() int { spawn kid(); sync; a[0] = 2; return 0; }\n\nentries 6\n0 t0 s0 spawn 0 t1 s1 s2\n1 t1 s1 write 0 1\n2 t1 s1 end 0\n3 t0 s2 sync s3\n4 t0 s3 write 0 2\n5 t0 s3 end 0\nraces 0\nfinish whole\nend\n";
+
+/// Two futures, each got by two others, so that the dag is not series-parallel.
+pub const CROSSED: &str =
+    "cells a[4];\ntask p() int { a[0] = 1; return 1; }\ntask q() int { a[1] = 2; return 2; }\ntask r(h: fut int, k: fut int, o: int) int { var x: int = get h; x = get k; var y: int = a[0]; var z: int = a[1]; a[o] = y + z; return x; }\ntask main() int { var h: fut int = create p(); var k: fut int = create q(); var m: fut int = create r(h, k, 2); var n: fut int = create r(h, k, 3); var x: int = get m; x = get n; return x; }\n";
 
 /// What came of a call.
 #[derive(Drop)]

@@ -72,7 +72,7 @@ fn command_lines_without_words(rt: HostRuntime) -> Result<(), Fail> {
             "usage: forder run, serial, replay, check or load\n",
             7,
         ),
-        (io::ErrorKind::OutOfMemory, 8, "", 8),
+        (io::ErrorKind::OutOfMemory, 8, "no memory\n", 7),
     ];
     for (kind, number, text, cut_off) in cases {
         // the source fails at its first call, and the answer shows that there was none

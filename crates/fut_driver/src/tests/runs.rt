@@ -1,6 +1,6 @@
 //! Worked runs and checks.
 use crate::status::Status;
-use crate::tests::{CHECK, RACE, RACE_RECORD, RUN, SERIAL, SYNC, SYNC_RECORD, ask};
+use crate::tests::{CHECK, CROSSED, RACE, RACE_RECORD, RUN, SERIAL, SYNC, SYNC_RECORD, ask};
 use fut_base::record::Finish;
 use race_report::found_of;
 use run_record::reader::read_run;
@@ -195,10 +195,6 @@ fn a_run_that_is_spent(rt: HostRuntime) -> Result<(), Fail> {
     Ok(())
 }
 
-/// Two futures, each got by two others, so that the dag is not series-parallel.
-const TWICE: &str =
-    "cells a[4];\ntask p() int { a[0] = 1; return 1; }\ntask q() int { a[1] = 2; return 2; }\ntask r(h: fut int, k: fut int, o: int) int { var x: int = get h; x = get k; var y: int = a[0]; var z: int = a[1]; a[o] = y + z; return x; }\ntask main() int { var h: fut int = create p(); var k: fut int = create q(); var m: fut int = create r(h, k, 2); var n: fut int = create r(h, k, 3); var x: int = get m; x = get n; return x; }\n";
-
 #[test]
 fn brief_texts(rt: HostRuntime) -> Result<(), Fail> {
     let race = "tasks 2\nfutures 0\nevents 6\nraces 1\nrace a[0] 1 3\nfinish whole\n";
@@ -209,7 +205,7 @@ fn brief_texts(rt: HostRuntime) -> Result<(), Fail> {
     };
     let twice = "tasks 5\nfutures 4\nevents 23\nraces 0\nfinish whole\n";
     let cases: [(&[&str], &str, Status, &str); 7] = [
-        (&["serial", "--brief"], TWICE, Status::Clean, twice),
+        (&["serial", "--brief"], CROSSED, Status::Clean, twice),
         (&["serial", "--brief"], RACE, Status::Raced, race),
         (&["run", "--brief"], RACE, Status::Raced, race),
         (

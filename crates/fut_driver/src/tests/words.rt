@@ -1,6 +1,6 @@
 //! Words, and sources and sinks that fail.
 use crate::status::Status;
-use crate::tests::{RACE, RACE_RECORD, REPLAY, RUN, ask, call_forder};
+use crate::tests::{RACE, RACE_RECORD, REPLAY, RUN, SERIAL, ask, call_forder};
 use crate::top::plain;
 use command_words::words::Words;
 use fut_base::memory::{MemSink, MemSource};
@@ -102,7 +102,7 @@ fn words_of_the_form_are_taken(rt: HostRuntime) -> Result<(), Fail> {
 fn a_source_that_fails(rt: HostRuntime) -> Result<(), Fail> {
     // 110 bytes by 16 a call: seven calls, and one more that answers the end
     for call in 0..8 {
-        for words in [RUN.as_slice(), REPLAY.as_slice()] {
+        for words in [SERIAL.as_slice(), RUN.as_slice(), REPLAY.as_slice()] {
             let answer = call_forder(&rt, words, RACE.as_bytes(), 16, &[call], &[])?;
             assert_eq!(rt; answer.status, Status::ReadFault, "call {call}");
             assert_eq!(rt; answer.text.as_slice(), b"read fault\n".as_slice());
@@ -118,21 +118,23 @@ fn a_source_that_fails(rt: HostRuntime) -> Result<(), Fail> {
 fn a_sink_that_fails(rt: HostRuntime) -> Result<(), Fail> {
     // the text is put at once, so that each call takes 16 bytes of it
     let calls = RACE_RECORD.len().div_ceil(16);
-    let mut wrote = 0;
-    for call in 0..calls {
-        let answer = call_forder(&rt, &RUN, RACE.as_bytes(), 16, &[], &[call as u64])?;
-        assert_eq!(rt; answer.status, Status::WriteFault, "call {call}");
-        assert_eq!(rt; answer.entries, 6);
-        assert_eq!(rt; answer.text.len(), wrote);
-        assert!(rt;
-            RACE_RECORD.as_bytes().starts_with(answer.text.as_slice()),
-            "call {call}"
-        );
-        wrote = answer.text.len().saturating_add(16);
+    for words in [SERIAL.as_slice(), RUN.as_slice()] {
+        let mut wrote = 0;
+        for call in 0..calls {
+            let answer = call_forder(&rt, words, RACE.as_bytes(), 16, &[], &[call as u64])?;
+            assert_eq!(rt; answer.status, Status::WriteFault, "call {call}");
+            assert_eq!(rt; answer.entries, 6);
+            assert_eq!(rt; answer.text.len(), wrote);
+            assert!(rt;
+                RACE_RECORD.as_bytes().starts_with(answer.text.as_slice()),
+                "call {call}"
+            );
+            wrote = answer.text.len().saturating_add(16);
+        }
+        let answer = call_forder(&rt, words, RACE.as_bytes(), 16, &[], &[calls as u64])?;
+        assert_eq!(rt; answer.status, Status::Raced);
+        assert_eq!(rt; answer.text.as_slice(), RACE_RECORD.as_bytes());
     }
-    let answer = call_forder(&rt, &RUN, RACE.as_bytes(), 16, &[], &[calls as u64])?;
-    assert_eq!(rt; answer.status, Status::Raced);
-    assert_eq!(rt; answer.text.as_slice(), RACE_RECORD.as_bytes());
     Ok(())
 }
 

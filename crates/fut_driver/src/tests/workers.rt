@@ -1,6 +1,6 @@
 //! Runs on several workers.
 use crate::status::Status;
-use crate::tests::{RACE, REPLAY, SYNC, ask};
+use crate::tests::{CROSSED, RACE, REPLAY, SYNC, ask};
 use crate::top::forder;
 use command_words::words::Words;
 use fut_base::gate::Gate;
@@ -18,10 +18,6 @@ const WIDE: &str =
 /// All tasks write one cell.
 const RACY: &str =
     "cells a[1];\ntask t(n: int) int { a[0] = n; if n > 0 { spawn t(n - 1); spawn t(n - 1); } return 0; }\ntask main() int { spawn t(6); sync; return 0; }\n";
-
-/// Two futures, each got by two others.
-const CROSSED: &str =
-    "cells a[4];\ntask p() int { a[0] = 1; return 1; }\ntask q() int { a[1] = 2; return 2; }\ntask r(h: fut int, k: fut int, o: int) int { var x: int = get h; x = get k; var y: int = a[0]; var z: int = a[1]; a[o] = y + z; return x; }\ntask main() int { var h: fut int = create p(); var k: fut int = create q(); var m: fut int = create r(h, k, 2); var n: fut int = create r(h, k, 3); var x: int = get m; x = get n; return x; }\n";
 
 /// Many children, each with a cell of its own.
 const KIDS: &str =
