@@ -2,12 +2,31 @@
 use crate::status::Status;
 use crate::tests::{CROSSED, REPLAY, SERIAL, ask};
 use fut_base::record::Finish;
+use std::process::Abort;
+use std::sync::Wait;
 use std::test::Fail;
+use std::thread::Threads;
 
 /// The number of events of a whole run of that text.
 const CROSSED_EVENTS: u32 = 23;
 
-/// A run stops at its bound exactly, whichever event comes next, and a replay says the same.
+/// Asserts that a run of that text with these words stops so, after so many entries, and that a replay of its record says the same.
+fn assert_stops<R: Abort + AllocGlobal + Threads + Wait + Sync>(
+    rt: &R,
+    words: &[&str],
+    due: Status,
+    bound: u32,
+) -> Result<(), Fail> {
+    let run = ask(rt, words, CROSSED.as_bytes())?;
+    assert_eq!(rt; run.status, due, "{bound}");
+    assert_eq!(rt; run.entries, bound as usize);
+    let replayed = ask(rt, &REPLAY, run.text.as_slice())?;
+    assert_eq!(rt; replayed.status, due, "{bound}");
+    assert_eq!(rt; replayed.entries, bound as usize);
+    Ok(())
+}
+
+/// A run stops at its bound exactly, whichever event comes next.
 #[test]
 fn bounds_at_each_event(rt: HostRuntime) -> Result<(), Fail> {
     let alloc = rt.alloc();
@@ -20,16 +39,10 @@ fn bounds_at_each_event(rt: HostRuntime) -> Result<(), Fail> {
         } else {
             Status::Clean
         };
-        let serial: [&str; 3] = ["serial", "--events", number.as_str()];
-        let four: [&str; 5] = ["run", "--workers", "4", "--events", number.as_str()];
-        for words in [serial.as_slice(), four.as_slice()] {
-            let run = ask(&rt, words, CROSSED.as_bytes())?;
-            assert_eq!(rt; run.status, due, "{bound}");
-            assert_eq!(rt; run.entries, bound as usize);
-            let replayed = ask(&rt, &REPLAY, run.text.as_slice())?;
-            assert_eq!(rt; replayed.status, due, "{bound}");
-            assert_eq!(rt; replayed.entries, bound as usize);
-        }
+        let serial = ["serial", "--events", number.as_str()];
+        assert_stops(&rt, &serial, due, bound)?;
+        let four = ["run", "--workers", "4", "--events", number.as_str()];
+        assert_stops(&rt, &four, due, bound)?;
     }
     Ok(())
 }
