@@ -157,6 +157,11 @@ class Text:
         scope = (["n", "k"], ["h"], [])
         lines = ["var n: int = %d; var k: int = 1; var h: fut int = create leaf(0, 0);" % self.random.randint(1, 4)]
         lines += [self.statement(scope, 0) for _ in range(self.random.randint(2, 8))]
+        if self.random.random() < 0.35:
+            # many children, so that there are many tasks at once
+            which = self.random.choice(self.callable(["h"], False) or self.callable(["h"], True))
+            lines.append("var many: int; while many < %d { spawn %s; k = k + 1; many = many + 1; }" % (
+                self.pick(20, 100, 300), self.call(["n", "k"], ["h"], which)))
         main = "task main() int { %s return 0; }" % " ".join(lines)
         cells = ["cells %s[%d];" % array for array in self.arrays]
         items = cells + [leaf] + tasks + [main]
@@ -289,7 +294,7 @@ class Soak:
                     self.say("the serial run is whole and clean, and this one is not like it", text, words, ran, wrote)
 
     def refused(self, text, words, serial, some):
-        room = self.least + some.choice((0, 1 << 16, 1 << 18, 1 << 20, 1 << 22, 1 << 24, 1 << 26)) + some.randrange(1 << 18)
+        room = self.least + some.randrange(1 << some.choice((12, 16, 17, 18, 20, 23, 26)))
         status, wrote = self.call(words, text, room)
         self.counts["limited runs"] += 1
         if status == 8:
