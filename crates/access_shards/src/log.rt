@@ -90,6 +90,13 @@ impl CellLog {
         &self.kept
     }
 
+    /// What is kept, and nothing else. It takes no memory.
+    pub fn into_kept(self) -> Kept
+        ensures { result ≡ self.kept }
+    {
+        self.kept
+    }
+
     /// Keeps a read at a place above all earlier ones, on strand `at`, whose table `reach` is. It asks at most twice more
     /// than accesses are kept, and takes no memory. Where the read comes after the kept ones in the English order of one
     /// future, each question after the fourth drops one of them; where it and they are of one future, and have been since

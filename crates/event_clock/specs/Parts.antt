@@ -10,7 +10,7 @@ use Rattle.event_clock.specs.declared.view.Carried.{Carried}
 use Rattle.event_clock.specs.declared.view.Own.{Own}
 use Rattle.event_clock.specs.declared.view.Size.{Size}
 use Rattle.event_clock.specs.Views.{numbers_of, times, carries, list_at, is_child}
-use Rattle.event_clock.specs.Rule.{IsPrefix, total, ClockRule}
+use Rattle.event_clock.specs.Rule.{IsPrefix, Rises, total, ClockRule}
 
 -- a seat has this view
 abbrev pub IsView : State (Unit {0}) View → ℕ → View → Type 0
@@ -19,11 +19,6 @@ IsView s seat v = get_elem? s.views seat ≡ some v
 -- the own list of a holder, in some view
 abbrev pub IsOwn : State (Unit {0}) View → Own → Type 0
 IsOwn s p = (seat : ℕ) × (v : View) × IsView s seat v × Among p v.own
-
--- the tickets rise
-abbrev pub Rises : List (ℕ × Event) → Type 0
-Rises [] = Unit {0}
-Rises (x ∷ xs) = ((y : ℕ × Event) → Among y xs → x.0 < y.0) × Rises xs
 
 -- how many tickets were given out
 abbrev pub tickets : Size → State (Unit {0}) View → ℕ

@@ -46,6 +46,11 @@ IsOrderly holders (x ∷ log) = MayDraw holders log x × IsOrderly holders log
 abbrev pub IsPrefix : List (ℕ × Event) → List (ℕ × Event) → Type 0
 IsPrefix xs ys = (rest : List (ℕ × Event)) × (xs ++ rest ≡ ys)
 
+-- the tickets rise
+abbrev pub Rises : List (ℕ × Event) → Type 0
+Rises [] = Unit {0}
+Rises (x ∷ xs) = ((y : ℕ × Event) → Among y xs → x.0 < y.0) × Rises xs
+
 -- a view shows its part of the log
 pub record Fits (size : Size) (log : List (ℕ × Event)) (v : View) : Type 0 where
   -- it is of this clock
@@ -98,11 +103,12 @@ pub record IsTold (size : Size) (v : View) (word : ℕ) : Type 0 where
   pub late : 0 < v.late → size.bound < word
 
 -- what a join tells: both old views' lists are beginnings of the new ones, no task was carried by both, the entries of each task
--- that is known stand beside it, and of its own numbers all entries are known
+-- that is known stand beside it, the tickets of what is known of a holder rise, and of its own numbers all entries are known
 pub record IsJoin (v w b : View) : Type 0 where
   pub view : b ≡ joined v w
   pub first : (h : ℕ) → IsPrefix (list_at v.known h) (list_at b.known h)
   pub second : (h : ℕ) → IsPrefix (list_at w.known h) (list_at b.known h)
   pub apart : (t : ℕ) → carries t v.tasks + carries t w.tasks ≤ 1
   pub entries : (c : Carried) (h : ℕ) (x : ℕ × Event) → Among c b.tasks → Among x (list_at b.known h) → x.1.task ≡ c.task → Among x c.trace
+  pub rises : (h : ℕ) → Rises (list_at b.known h)
   pub whole : (p : Own) → Among p b.own → list_at b.known p.number ≡ p.entries

@@ -6,8 +6,7 @@ use Rattle.event_clock.specs.declared.view.Own.{Own}
 use Rattle.event_clock.specs.declared.view.Carried.{Carried}
 use Rattle.event_clock.specs.declared.view.Size.{Size}
 use Rattle.event_clock.specs.Views.{list_at, is_child}
-use Rattle.event_clock.specs.Rule.{IsPrefix}
-use Rattle.event_clock.specs.Parts.{Rises}
+use Rattle.event_clock.specs.Rule.{IsPrefix, Rises}
 use Rattle.event_clock.specs.Seated.{Seated}
 use Rattle.event_clock.specs.Closing.{IsClosed}
 

@@ -9,7 +9,7 @@ use Rattle.std.proofs.lemmas.List.Sums.{sum_by-cons}
 use Rattle.std.proofs.lemmas.Bool.{cases_Bool}
 use Rattle.std.specs.Prelude.{Some, reverse, filter, count_by, slice_get}
 use Rattle.fut_base.specs.Dag.{Among}
-use Rattle.event_clock.specs.Parts.{Rises}
+use Rattle.event_clock.specs.Rule.{Rises}
 use Rattle.merge_laws.specs.Parts.{Drawn, all_of}
 
 -- ---- members

@@ -10,9 +10,8 @@ use Rattle.std.specs.Prelude.{count_by}
 use Rattle.fut_base.specs.declared.event.Event.{Event}
 use Rattle.fut_base.specs.Dag.{Among}
 use Rattle.access_shards.proofs.Histories.{Stood, stood_of, get_of}
-use Rattle.event_clock.specs.Parts.{Rises}
 use Rattle.merge_laws.specs.Parts.{Drawn, all_of, ShareOut, IsMerge, IsTraceOf, IsSharedRun}
-use Rattle.event_clock.specs.Rule.{picked, own_of, trace_of}
+use Rattle.event_clock.specs.Rule.{picked, own_of, trace_of, Rises}
 use Rattle.merge_laws.specs.Logs.{owns_from, history_of, AreOfHolders, IsLoggedRun, LogIsShared, LogHasTraces, LogGivesRun, LogIsLegal}
 use Rattle.fut_syntax.specs.Trees as tree
 use Rattle.merge_laws.proofs.Lists.{weight, count_next}

@@ -16,7 +16,7 @@ use Rattle.fut_base.specs.Sound.{IsSoundPast, MayAct, current_by, next_task}
 use Rattle.fut_syntax.specs.Trees as tree
 use Rattle.strand_laws.proofs.Links.{if_off, linked}
 use Rattle.access_shards.specs.Histories.{IsStanding}
-use Rattle.event_clock.specs.Parts.{Rises}
+use Rattle.event_clock.specs.Rule.{Rises}
 use Rattle.merge_laws.specs.Parts.{Drawn, events_in, StartsAs, past_below}
 use Rattle.merge_laws.specs.Laws.{TracedByMore, TracedByOne, TracedAtStart}
 use Rattle.task_machine.specs.State.{start_state, effect_of}

@@ -9,7 +9,7 @@ use Rattle.std.specs.Prelude.{Some, reverse, filter, count_by, slice_get}
 use Rattle.fut_base.specs.declared.event.Event.{Event}
 use Rattle.fut_base.specs.Dag.{Among}
 use Rattle.access_shards.proofs.Histories.{Stood, stood_lt, stood_of, get_of}
-use Rattle.event_clock.specs.Parts.{Rises}
+use Rattle.event_clock.specs.Rule.{Rises}
 use Rattle.merge_laws.specs.Parts.{Drawn, events_in, all_of, ShareOut, IsMerge}
 use Rattle.merge_laws.specs.Laws.{MergeExists, MergeIsOne}
 use Rattle.merge_laws.proofs.Lists.{IsFalling, among_filter, filter_among, among_reverse, reverse_among}

@@ -17,7 +17,7 @@ use Rattle.access_shards.specs.Touches.{Touch}
 use Rattle.access_shards.specs.Kept.{Kind, IsKept, touch}
 use Rattle.access_shards.specs.Histories.{kind_of, touches_of, IsStanding}
 use Rattle.access_shards.specs.Laws.{AreOn, TellsRaces}
-use Rattle.event_clock.specs.Parts.{Rises}
+use Rattle.event_clock.specs.Rule.{Rises}
 use Rattle.merge_laws.specs.Parts.{Drawn, events_in, ShareOut, IsMerge, StartsAs, IsTraced, IsSharedRun, MayGoOn, HasEndedOrWaits}
 
 -- lists that share out the numbers below n have one merge, of length n

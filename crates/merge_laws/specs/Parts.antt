@@ -13,7 +13,7 @@ use Rattle.task_machine.specs.Texts.{main_of}
 use Rattle.task_machine.specs.State.{TaskState, Wish, ToSync, ToGet, wish_of}
 use Rattle.task_machine.specs.Runs.{StandsAt, IsStateAfter}
 use Rattle.access_shards.specs.Histories.{IsStanding}
-use Rattle.event_clock.specs.Parts.{Rises}
+use Rattle.event_clock.specs.Rule.{Rises}
 
 -- an entry, with the ticket that it drew
 abbrev pub Drawn : Type 0

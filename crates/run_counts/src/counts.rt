@@ -148,6 +148,13 @@ impl<J: Run> Counts<J> {
         self.waiting -= 1;
     }
 
+    /// How many tasks have neither ended nor wait.
+    pub fn running(&self) -> u32
+        ensures { result ≡ self.now.running }
+    {
+        self.running
+    }
+
     /// How many tasks have not ended.
     pub fn unended(&self) -> u32
         ensures { result ≡ self.now.running + self.now.waiting }

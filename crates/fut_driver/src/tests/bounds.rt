@@ -73,3 +73,43 @@ fn a_million_events(rt: HostRuntime) -> Result<(), Fail> {
     }
     Ok(())
 }
+
+/// The number of events of a whole run of that text.
+const CROSSED_EVENTS: u32 = 23;
+
+/// Asserts that a run of that text with these words stops so, after so many entries, and that a replay of its record says the same.
+fn assert_stops<R: Abort + AllocGlobal + Threads + Wait + Sync>(
+    rt: &R,
+    words: &[&str],
+    due: Status,
+    bound: u32,
+) -> Result<(), Fail> {
+    let run = ask(rt, words, CROSSED.as_bytes())?;
+    assert_eq!(rt; run.status, due, "{bound}");
+    assert_eq!(rt; run.entries, bound as usize);
+    let replayed = ask(rt, &REPLAY, run.text.as_slice())?;
+    assert_eq!(rt; replayed.status, due, "{bound}");
+    assert_eq!(rt; replayed.entries, bound as usize);
+    Ok(())
+}
+
+/// A run stops at its bound exactly, whichever event comes next.
+#[test]
+fn bounds_at_each_event(rt: HostRuntime) -> Result<(), Fail> {
+    let alloc = rt.alloc();
+    for bound in 1..CROSSED_EVENTS + 1 {
+        let number = format!(in alloc; "{bound}")?;
+        let due = if bound < CROSSED_EVENTS {
+            Status::Spent {
+                finish: Finish::Events { bound },
+            }
+        } else {
+            Status::Clean
+        };
+        let serial = ["serial", "--events", number.as_str()];
+        assert_stops(&rt, &serial, due, bound)?;
+        let four = ["run", "--workers", "4", "--events", number.as_str()];
+        assert_stops(&rt, &four, due, bound)?;
+    }
+    Ok(())
+}
