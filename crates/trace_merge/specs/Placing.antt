@@ -1,5 +1,5 @@
 -- Entries that take the places of their tickets.
-use Rattle.std.specs.Prelude.{◌≡◌, ℕ, ◌⊎◌, ◌<◌, List, flat_map, slice_get, Option, Some}
+use Rattle.std.specs.Prelude.{◌≡◌, ℕ, ◌<◌, List, length, flat_map, slice_get, Option, Some}
 use Rattle.fut_base.specs.declared.record.Entry.{Entry}
 use Rattle.fut_base.specs.Dag.{Among}
 use Rattle.fut_base.specs.Listed.{Listed}
@@ -21,3 +21,12 @@ pub record AreApart (count : ℕ) (drawn : List (ℕ × Entry)) : Type 0 where
 pub record HavePlaces (drawn : List (ℕ × Entry)) (old new : List (Option Entry)) : Type 0 where
   pub each : (x : ℕ × Entry) → Among x drawn → HasPlace new x.0 x.1
   pub others : (k : ℕ) → ((x : ℕ × Entry) → Among x drawn → x.0 ≡ k → ⊥) → slice_get new k ≡ slice_get old k
+
+-- each place has an entry
+abbrev pub AreTaken : List (Option Entry) → Type 0
+AreTaken places = (k : ℕ) → k < length places → (e : Entry) × HasPlace places k e
+
+-- these are the entries of all places, in their order
+pub record IsTaken (places : List (Option Entry)) (entries : List Entry) : Type 0 where
+  pub size : length entries ≡ length places
+  pub each : (k : ℕ) (e : Entry) → HasPlace places k e → slice_get entries k ≡ Some e

@@ -1,9 +1,9 @@
 //! One history of the traces of a run's tasks: each entry at the place of its ticket.
 #![tactic(auto)]
-ghost use Rattle.std.specs.Prelude.{◌≡◌, ◌≢◌, ℕ, ◌<◌, ◌↔◌, length, map, slice_get, slice_set, Some, None, IfOk};
+ghost use Rattle.std.specs.Prelude.{◌≡◌, ℕ, ◌<◌, ◌↔◌, length, slice_get, slice_set, Some, IfOk};
 ghost use Rattle.fut_base.specs.declared.record.Entry.{Entry as Made};
 ghost use Rattle.fut_base.specs.Dag.{Among};
-ghost use Rattle.trace_merge.specs.Placing.{AreApart, HavePlaces, entries_in};
+ghost use Rattle.trace_merge.specs.Placing.{AreApart, AreTaken, HavePlaces, IsTaken, entries_in};
 
 use fut_base::list::NoMemory;
 use fut_base::ready::Ready;
@@ -16,12 +16,12 @@ mod tests;
 
 /// So many places, none of them taken.
 fn places(alloc: Global, count: u32) -> Result<Vec<Option<Entry>>, NoMemory>
-    ensures length { IfOk result (λ v. length v.items ≡ count) }
-    ensures free { IfOk result (λ v. (k : ℕ) → k < count → slice_get v.items k ≡ Some None) }
+    ensures { IfOk result (λ v. length v.items ≡ count) }
 {
-    let mut places = Vec::with_capacity(alloc, count as usize)?;
+    let mut places = Vec::new(alloc);
+    places.reserve(count as usize)?;
     for _place in 0..count {
-        places.push_reserved(None);
+        places.push(None)?;
     }
     Ok(places)
 }
@@ -59,19 +59,33 @@ fn place_all(places: &mut [Option<Entry>], traces: Ready<Trace>)
 }
 
 /// The entries that took all places, in the order of these.
-fn taken(alloc: Global, places: Vec<Option<Entry>>) -> Result<History, NoMemory>
-    requires { (k : ℕ) → slice_get places.items k ≢ Some None }
-    ensures { IfOk result (λ h. map (λ (e : Made). Some e) h.items ≡ places.items) }
+fn taken(alloc: Global, places: &mut [Option<Entry>]) -> Result<History, NoMemory>
+    requires { AreTaken places.old }
+    ensures { IfOk result (λ h. IsTaken places.old h.items) }
 {
     let mut history = History::make(alloc);
-    for place in places {
-        let Some(entry) = place else {
+    for k in 0..places.len() {
+        let Some(entry) = places[k].take() else {
             unreachable!()
         };
         history.reserve()?;
         history.push(entry);
     }
     Ok(history)
+}
+
+/// The entries of these traces take the places, and are taken out of these in their order.
+fn fill(
+    alloc: Global,
+    places: &mut [Option<Entry>],
+    traces: Ready<Trace>,
+) -> Result<History, NoMemory>
+    requires apart { AreApart (length places.old) (entries_in traces.items) }
+    requires all { (k : ℕ) → k < length places.old → (e : Made) × Among (k, e) (entries_in traces.items) }
+    ensures { IfOk result (λ h. (k : ℕ) (e : Made) → (slice_get h.items k ≡ Some e) ↔ Among (k, e) (entries_in traces.items)) }
+{
+    place_all(places, traces);
+    taken(alloc, places)
 }
 
 /// The history with all entries of these traces, whose tickets are the numbers below `count`, each once. An entry's place is its
@@ -82,6 +96,5 @@ pub fn merge(alloc: Global, count: u32, traces: Ready<Trace>) -> Result<History,
     ensures { IfOk result (λ h. (k : ℕ) (e : Made) → (slice_get h.items k ≡ Some e) ↔ Among (k, e) (entries_in traces.items)) }
 {
     let mut places = places(alloc, count)?;
-    place_all(places.as_mut_slice(), traces);
-    taken(alloc, places)
+    fill(alloc, places.as_mut_slice(), traces)
 }
