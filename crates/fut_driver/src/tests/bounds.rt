@@ -1,8 +1,11 @@
 //! Runs with as many events, futures, readers and workers as may come.
 use crate::status::Status;
-use crate::tests::{REPLAY, SERIAL, ask};
+use crate::tests::{CROSSED, REPLAY, SERIAL, ask};
 use fut_base::record::Finish;
+use std::process::Abort;
+use std::sync::Wait;
 use std::test::Fail;
+use std::thread::Threads;
 
 /// All futures that a run may create, on several workers.
 #[test]
