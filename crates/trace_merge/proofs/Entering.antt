@@ -1,6 +1,6 @@
 -- Entries that take the places of their tickets, one after the other.
-use Rattle.std.proofs.Common.{◌≡◌, ℕ, zero, suc, ◌+◌, ◌<◌, Bool, true, false, List, [], ◌∷◌, ◌++◌, length, ◌⊎◌, inl, inr, refl, sym, ap, ◌∙◌, subst, arith}
-use Rattle.std.specs.Prelude.{Some, None, Option, slice_get, slice_set, flat_map}
+use Rattle.std.proofs.Common.{◌≡◌, ℕ, zero, suc, ◌<◌, List, [], ◌∷◌, ◌++◌, length, ◌⊎◌, inl, inr, refl, sym, ap, ◌∙◌, subst, arith}
+use Rattle.std.specs.Prelude.{Some, Option, slice_get, slice_set}
 use mathlib.Core.Logic.{dite}
 use native.Mathlib.Decide.{ℕ_discrete}
 use Rattle.fut_base.specs.declared.record.Entry.{Entry}
@@ -37,10 +37,10 @@ one_placed count drawn done rest x old now apart parts less have =
     let here : HasPlace (slice_set now x.0 (Some x.1)) x.0 x.1 = set_here now x.0 (Some x.1) less in
     let old_one : (y : ℕ × Entry) → Among y done → HasPlace (slice_set now x.0 (Some x.1)) y.0 y.1 =
     (λ y a. dite (ℕ_discrete y.0 x.0)
-        (λ (same : y.0 ≡ x.0).
-            let is : y ≡ x = apart.once y x (in_drawn y (among_left y done (x ∷ rest) a)) (in_drawn x (among_right x done (x ∷ rest) (inl refl))) same in
-            subst (λ (z : ℕ × Entry). HasPlace (slice_set now x.0 (Some x.1)) z.0 z.1) (sym is) here)
-        (λ ne. set_off now x.0 y.0 (Some x.1) ne ∙ have.each y a)) in
+    (λ (same : y.0 ≡ x.0).
+    let is : y ≡ x = apart.once y x (in_drawn y (among_left y done (x ∷ rest) a)) (in_drawn x (among_right x done (x ∷ rest) (inl refl))) same in
+    subst (λ (z : ℕ × Entry). HasPlace (slice_set now x.0 (Some x.1)) z.0 z.1) (sym is) here)
+    (λ ne. set_off now x.0 y.0 (Some x.1) ne ∙ have.each y a)) in
     record {
       each = λ y a. elim (among_split y done (x ∷ []) a) [
         | inl b ↦ old_one y b

@@ -1,5 +1,5 @@
 -- Two entries, the later first.
-use Rattle.std.proofs.Common.{ℕ, zero, suc, ◌<◌, List, [], ◌∷◌, inl, inr, refl, arith}
+use Rattle.std.proofs.Common.{ℕ, zero, suc, ◌<◌, [], ◌∷◌, inl, inr, refl, arith}
 use Rattle.fut_base.specs.declared.record.Entry.{Entry}
 use Rattle.fut_base.specs.Dag.{Among}
 use Rattle.trace_merge.specs.Trials.{end_of}

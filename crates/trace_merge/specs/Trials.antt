@@ -1,6 +1,5 @@
 -- Entries for the tests.
 use Rattle.std.specs.Prelude.{ℕ, pos}
-use Rattle.fut_base.specs.declared.record.Act.{Act}
 use Rattle.fut_base.specs.declared.record.Act.TheVariants as act
 use Rattle.fut_base.specs.declared.record.Entry.{Entry}
 use Rattle.fut_base.specs.declared.record.Value.TheVariants.{Int}

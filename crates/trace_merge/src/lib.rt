@@ -1,5 +1,6 @@
 //! One history of the traces of a run's tasks: each entry at the place of its ticket.
 #![tactic(auto)]
+
 ghost use Rattle.std.specs.Prelude.{◌≡◌, ℕ, ◌<◌, ◌↔◌, length, slice_get, slice_set, Some, IfOk};
 ghost use Rattle.fut_base.specs.declared.record.Entry.{Entry as Made};
 ghost use Rattle.fut_base.specs.Dag.{Among};

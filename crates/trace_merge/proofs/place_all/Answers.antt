@@ -17,9 +17,11 @@ apart_next count all done traces rest t apart parts first =
 pub place_trace-requires : goal.place_trace-requires
 place_trace-requires c =
     let (done, parts, size, have) = c.loop-trace.invariant in
-    subst (λ n. record { apart : AreApart n c.in-Some.trace.items }) (sym size) record { apart = apart_in (length c.args.places.now) done c.pop.new.self.items c.in-Some.trace
-    (apart_next (length c.args.places.now) c.args.traces.items done c.loop-trace.traces.items c.pop.new.self.items c.in-Some.trace c.requires.apart parts
-    c.in-Some.ensures.items) }
+    subst (λ n. record { apart : AreApart n c.in-Some.trace.items }) (sym size) record {
+      apart = apart_in (length c.args.places.now) done c.pop.new.self.items c.in-Some.trace
+          (apart_next (length c.args.places.now) c.args.traces.items done c.loop-trace.traces.items c.pop.new.self.items c.in-Some.trace c.requires.apart parts
+          c.in-Some.ensures.items);
+    }
 
 pub loop-trace-smaller : goal.loop-trace-smaller
 loop-trace-smaller c =

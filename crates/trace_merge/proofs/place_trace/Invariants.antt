@@ -1,7 +1,6 @@
-use Rattle.std.proofs.Common.{◌≡◌, ℕ, ◌<◌, ◌↔◌, length, slice_get, slice_set, Some, None, IfOk, ◌+◌, ◌-◌, ◌*◌, ◌≤◌, List, ◌++◌}
+use Rattle.std.proofs.Common.{◌≡◌, ℕ, length, List, ◌++◌}
 use Rattle.fut_base.specs.declared.record.Entry.{Entry as Made}
-use Rattle.fut_base.specs.Dag.{Among}
-use Rattle.trace_merge.specs.Placing.{AreApart, HavePlaces, entries_in}
+use Rattle.trace_merge.specs.Placing.{HavePlaces}
 use Rattle.trace_merge.proofs.place_trace.Given as goal
 
 abbrev pub invariant-loop-ticket : goal.invariant-loop-ticket

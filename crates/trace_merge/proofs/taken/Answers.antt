@@ -1,4 +1,4 @@
-use Rattle.std.proofs.Common.{◌≡◌, ℕ, ◌+◌, ◌<◌, ◌≤◌, length, List, [], ◌∷◌, ◌++◌, Some, slice_get, refl, sym, ap, ◌∙◌, subst, arith, length-append}
+use Rattle.std.proofs.Common.{◌≡◌, length, List, [], ◌∷◌, ◌++◌, Some, slice_get, refl, sym, ap, ◌∙◌, subst, arith, length-append}
 use Rattle.std.proofs.lemmas.Option.{get_or_from_slice_get, same_Some}
 use mathlib.Core.Logic.{dite}
 use native.Mathlib.Decide.{ℕ_discrete}
@@ -28,14 +28,14 @@ loop-k-preserved c =
     let size = inv.size in
     let here : (e : Entry) → HasPlace c.args.places.now k e → entry ≡ e =
     (λ e h. same_Some entry e (sym c.in-Some.is ∙ c.take.ensures.value
-        ∙ get_or_from_slice_get c.loop-k.places k (Some e) _ (inv.rest k (omega arith) ∙ h))) in
+    ∙ get_or_from_slice_get c.loop-k.places k (Some e) _ (inv.rest k (omega arith) ∙ h))) in
     record {
       size = omega (arith, size, whole, longer);
       same = set_length c.loop-k.places k c.take.new.self ∙ inv.same;
       done = λ i e less h. subst (λ l. slice_get l i ≡ Some e) (sym items)
           (dite (ℕ_discrete i k)
           (λ (at : i ≡ k). subst (λ n. slice_get (hist ++ entry ∷ []) n ≡ Some e) (inv.size ∙ sym at)
-              (get_new hist [] entry ∙ ap (λ x. Some x) (here e (subst (λ n. HasPlace c.args.places.now n e) at h))))
+          (get_new hist [] entry ∙ ap (λ x. Some x) (here e (subst (λ n. HasPlace c.args.places.now n e) at h))))
           (λ ne. get_left hist (entry ∷ []) i e (inv.done i e (omega (arith, less, ne)) h)));
       rest = λ i le. set_off c.loop-k.places k i c.take.new.self (λ same. omega (arith, le, same)) ∙ inv.rest i (omega (arith, le));
     }
