@@ -116,12 +116,3 @@ pub get_left : {X : Type 0} (xs ys : List X) (i : ℕ) (x : X) → slice_get xs 
 get_left [] ys i x h = cc
 get_left (y ∷ xs) ys zero x h = h
 get_left (y ∷ xs) ys (suc i) x h = get_left xs ys i x h
-
-pub get_new : {X : Type 0} (xs ys : List X) (x : X) → slice_get (xs ++ x ∷ ys) (length xs) ≡ Some x
-get_new [] ys x = refl
-get_new (y ∷ xs) ys x = get_new xs ys x
-
-pub get_within : {X : Type 0} (xs : List X) (i : ℕ) (x : X) → slice_get xs i ≡ Some x → i < length xs
-get_within [] i x h = cc
-get_within (y ∷ xs) zero x h = omega arith
-get_within (y ∷ xs) (suc i) x h = omega (arith, get_within xs i x h)

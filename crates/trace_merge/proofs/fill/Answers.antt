@@ -4,7 +4,7 @@ use Rattle.std.proofs.lemmas.Result.{IfOk-weaker}
 use Rattle.fut_base.specs.declared.record.Entry.{Entry}
 use Rattle.fut_base.specs.Dag.{Among}
 use Rattle.trace_merge.specs.Placing.{entries_in}
-use Rattle.trace_merge.proofs.Entering.{get_within}
+use Rattle.task_machine.proofs.Places.{get_below}
 use Rattle.trace_merge.proofs.fill.Goals as goal
 
 pub taken-requires : goal.taken-requires
@@ -18,7 +18,7 @@ returns c =
     (λ h is k e. (
       (λ got.
           let within : k < length c.args.places.now =
-          subst (λ n. k < n) (is.size ∙ c.place_all.ensures.length) (get_within h.items k e got) in
+          subst (λ n. k < n) (is.size ∙ c.place_all.ensures.length) (get_below h.items k e got) in
           let (f, a) = c.requires.all k within in
           subst (λ (x : Entry). Among {X = ℕ × Entry} (k, x) (entries_in c.args.traces.items)) (same_Some f e (sym (is.each k f (c.place_all.ensures.placed.each (k, f) a)) ∙ got)) a),
       (λ a. is.each k e (c.place_all.ensures.placed.each (k, e) a)),

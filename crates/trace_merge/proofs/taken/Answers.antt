@@ -4,7 +4,8 @@ use mathlib.Core.Logic.{dite}
 use native.Mathlib.Decide.{ℕ_discrete}
 use Rattle.fut_base.specs.declared.record.Entry.{Entry}
 use Rattle.trace_merge.specs.Placing.{HasPlace}
-use Rattle.trace_merge.proofs.Entering.{set_off, set_length, get_left, get_new, get_within}
+use Rattle.task_machine.proofs.Places.{get_below, get_new}
+use Rattle.trace_merge.proofs.Entering.{set_off, set_length, get_left}
 use Rattle.trace_merge.proofs.taken.Goals as goal
 
 pub loop-k-init : goal.loop-k-init
@@ -48,5 +49,5 @@ returns c =
     let size = inv.size in
     record {
       size = omega (arith, size, end, stop);
-      each = λ k e h. inv.done k e (let less = get_within c.args.places.now k (Some e) h in omega (arith, less, end, stop)) h;
+      each = λ k e h. inv.done k e (let less = get_below c.args.places.now k (Some e) h in omega (arith, less, end, stop)) h;
     }
