@@ -173,7 +173,7 @@ module _ (clock : Ticking) (orders : TableId) (code : Compiled) (limits : Limits
       let there : Among (carried_task t trace) v.tasks =
       subst (Among (carried_task t trace)) (sym d.known.tasks_are)
       (among_left (carried_task t trace) b.holder.view.tasks (carried_task j.task.number (drawn_of j.task.trace.items) ∷ [])
-      ((is.carried (carried_task t trace)).1 (given b.first refl))) in
+      (subst (λ cs. Among (carried_task t trace) cs) (sym is.carried) (given b.first refl))) in
       record {
         ended = (old.ended.0, ap (λ l. last_of l t) (past_one (entries_of b) k e) ∙ stays);
         led = λ P typed of. (let (which, args, s, starts, leads) = old.led P typed of in (
@@ -206,7 +206,7 @@ module _ (clock : Ticking) (orders : TableId) (code : Compiled) (limits : Limits
           let zero : t ≡ 0 = root_at t j.place.at.number (subst (λ l. current (past_in l) t ≡ Some j.place.at.number) none d.known.task.strand) in
           let root : Carried = carried_task 0 [] in
           let there : Among root b.holder.view.tasks =
-          (is.carried root).1 (subst (λ f. Among root (carried_by f (traces_of b))) (sym first) (inl refl)) in
+          subst (λ cs. Among root cs) (sym is.carried) (subst (λ f. Among root (carried_by f (traces_of b))) (sym first) (inl refl)) in
           let some : 0 < carries 0 b.holder.view.tasks = carries_among root b.holder.view.tasks there in
           let no : carries 0 b.holder.view.tasks ≡ 0 = subst (λ n. carries n b.holder.view.tasks ≡ 0) zero d.known.apart in
           omega (arith, some, no))
@@ -215,7 +215,7 @@ module _ (clock : Ticking) (orders : TableId) (code : Compiled) (limits : Limits
   carried_below : (c : Carried) → Among c b.holder.view.tasks → c.task < next_task (past_in (entries_of b))
   carried_below c a =
       let past : List Event = past_in (entries_of b) in
-      let there : Among c (carried_by None (traces_of b)) = subst (λ f. Among c (carried_by f (traces_of b))) first_none ((is.carried c).0 a) in
+      let there : Among c (carried_by None (traces_of b)) = subst (λ f. Among c (carried_by f (traces_of b))) first_none (subst (λ cs. Among c cs) is.carried a) in
       let t = map_among (λ (trace : List (ℕ × Event)). carried_task (task_of trace) trace) c (traces_of b) there in
       let old = is.ended t.0 t.1 in
       subst (λ (x : Carried). x.task < next_task past) t.2 (ended_below past is.listed.sound (task_of t.0) old.ended.0 old.ended.1)
@@ -238,12 +238,10 @@ module _ (clock : Ticking) (orders : TableId) (code : Compiled) (limits : Limits
 
   -- where the holder carries what it carried, and the traces are those that were there
   pub same_carried : (b' : BookNow) → b'.holder.view.tasks ≡ b.holder.view.tasks → b'.traces ≡ b.traces → b'.first ≡ b.first
-      → ((c : Carried) → Among c b'.holder.view.tasks ↔ Among c (carried_by b'.first (traces_of b'))) × ((t : ℕ) → carries t b'.holder.view.tasks ≤ 1)
+      → (b'.holder.view.tasks ≡ carried_by b'.first (traces_of b')) × ((t : ℕ) → carries t b'.holder.view.tasks ≤ 1)
       × ((trace : List (ℕ × Event)) → Among trace (traces_of b') → IsEndedTrace code (entries_of b ++ (k, e) ∷ []) trace)
   same_carried b' tasks traces first = (
-    λ c. subst (λ cs. Among c cs ↔ Among c (carried_by b'.first (traces_of b'))) (sym tasks)
-        (subst (λ f. Among c b.holder.view.tasks ↔ Among c (carried_by f (traces_of b'))) (sym first)
-        (subst (λ ts. Among c b.holder.view.tasks ↔ Among c (carried_by b.first (traces_of (record b { traces = ts })))) (sym traces) (is.carried c))),
+    tasks ∙ is.carried ∙ ap (λ ts. carried_by b.first (traces_of (record b { traces = ts }))) (sym traces) ∙ ap (λ f. carried_by f (traces_of b')) (sym first),
     λ t. subst (λ cs. carries t cs ≤ 1) (sym tasks) (is.once t),
     λ trace a. ended_more trace (subst (λ (ts : List (Listed (ℕ × Entry))). Among trace (traces_of (record b { traces = ts }))) traces a),
   )
@@ -256,7 +254,7 @@ module _ (clock : Ticking) (orders : TableId) (code : Compiled) (limits : Limits
       → ((t : ℕ) (l : LineNow) → slice_get b'.lines t ≡ Some l → IsLineOf code (entries_of b ++ (k, e) ∷ []) t l)
       → AreOrders (events_in (entries_of b ++ (k, e) ∷ [])) b'.writer.lists.english.order b'.writer.lists.hebrew.order
       → b'.creates ≡ create_count (events_in (entries_of b ++ (k, e) ∷ [])) → b'.creates ≤ limits.futures
-      → ((c : Carried) → Among c b'.holder.view.tasks ↔ Among c (carried_by b'.first (traces_of b'))) × ((t : ℕ) → carries t b'.holder.view.tasks ≤ 1)
+      → (b'.holder.view.tasks ≡ carried_by b'.first (traces_of b')) × ((t : ℕ) → carries t b'.holder.view.tasks ≤ 1)
       × ((trace : List (ℕ × Event)) → Among trace (traces_of b') → IsEndedTrace code (entries_of b ++ (k, e) ∷ []) trace)
       → IsTold b' → b'.first ≡ b.first → IsBook clock orders code limits b'
   book_went b' limits_are clock_is home number entries known within room tasks lines orders_are creates few carried told first =

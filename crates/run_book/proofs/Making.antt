@@ -78,7 +78,7 @@ new_book clock orders code limits given h w lines traces counts pace same bound 
         orders = subst (λ e. AreOrders (events_in e) w.lists.english.order w.lists.hebrew.order) (sym none) orders_is;
         creates = ap (λ e. create_count (events_in e)) (sym none);
       };
-      carried = λ c. subst (λ cs. Among c cs ↔ Among c (root_task ∷ [])) (sym first.root) ((λ a. a), (λ a. a));
+      carried = first.root;
       once = λ t. subst (λ cs. carries t cs ≤ 1) (sym first.root) (once_at t);
       ended = λ trace a. absurd (subst (λ ts. Among trace (traces_of (record { limits = given; holder = h; writer = w; lines = lines; traces = ts; creates = 0; counts = counts; first = Some pace }))) traces_is a);
       counted = record {

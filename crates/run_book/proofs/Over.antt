@@ -174,7 +174,7 @@ module _ (clock : Ticking) (orders : TableId) (code : Compiled) (limits : Limits
     -- what the holder carries, and the traces of the tasks that have ended
     end_carried : (b' : BookNow) (t : Listed (ℕ × Entry)) → b'.holder.view.tasks ≡ b.holder.view.tasks ++ carried_task j.task.number trace_is ∷ []
         → drawn_of t.items ≡ trace_is → b'.traces ≡ b.traces ++ t ∷ [] → b'.first ≡ b.first
-        → ((c : Carried) → Among c b'.holder.view.tasks ↔ Among c (carried_by b'.first (traces_of b'))) × ((t : ℕ) → carries t b'.holder.view.tasks ≤ 1)
+        → (b'.holder.view.tasks ≡ carried_by b'.first (traces_of b')) × ((t : ℕ) → carries t b'.holder.view.tasks ≤ 1)
         × ((trace : List (ℕ × Event)) → Among trace (traces_of b') → IsEndedTrace code after trace)
     end_carried b' t tasks trace traces first =
         let none = first_none clock orders code limits b j v k end_of is end_drawn in
@@ -187,19 +187,8 @@ module _ (clock : Ticking) (orders : TableId) (code : Compiled) (limits : Limits
         ∙ ap (λ n. carried_by None (traces_of b) ++ carried_task n trace_is ∷ []) task_here in
         let has : carried_by b'.first (traces_of b') ≡ carried_by None (traces_of b) ++ mine ∷ [] =
         ap (λ f. carried_by f (traces_of b')) (first ∙ none) ∙ ap (λ ts. carried_by None ts) all ∙ both in
-        let was : (c : Carried) → Among c b.holder.view.tasks ↔ Among c (carried_by None (traces_of b)) =
-        λ c. subst (λ f. Among c b.holder.view.tasks ↔ Among c (carried_by f (traces_of b))) none (is.carried c) in (
-          λ c. subst (λ cs. Among c cs ↔ Among c (carried_by b'.first (traces_of b'))) (sym tasks)
-              (subst (λ ds. Among c (b.holder.view.tasks ++ mine ∷ []) ↔ Among c ds) (sym has) (
-                (λ a. elim (among_split c b.holder.view.tasks (mine ∷ []) a) [
-                  | inl old ↦ among_left c (carried_by None (traces_of b)) (mine ∷ []) ((was c).0 old)
-                  | inr new ↦ among_right c (carried_by None (traces_of b)) (mine ∷ []) new
-                ]),
-                (λ a. elim (among_split c (carried_by None (traces_of b)) (mine ∷ []) a) [
-                  | inl old ↦ among_left c b.holder.view.tasks (mine ∷ []) ((was c).1 old)
-                  | inr new ↦ among_right c b.holder.view.tasks (mine ∷ []) new
-                ]),
-              )),
+        let was : b.holder.view.tasks ≡ carried_by None (traces_of b) = is.carried ∙ ap (λ f. carried_by f (traces_of b)) none in (
+          tasks ∙ ap (λ cs. cs ++ mine ∷ []) was ∙ sym has,
           λ n. subst (λ cs. carries n cs ≤ 1) (sym tasks) (once n mine),
           λ trace a. elim (among_split trace (traces_of b) (trace_is ∷ []) (subst (λ ts. Among trace ts) all a)) [
             | inl old ↦ ended_more clock orders code limits b j v k end_of is end_drawn trace old

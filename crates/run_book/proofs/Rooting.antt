@@ -1,7 +1,6 @@
 -- The root task is given out.
 use Rattle.std.proofs.Common.{◌≡◌, ℕ, ◌+◌, ◌<◌, ◌≤◌, ◌==◌, true, false, if◌then◌else◌, List, [], ◌∷◌, length, reverse, inl, inr, ◌⊎◌, subst, ap, sym, refl, ◌∙◌, arith}
 use Rattle.std.specs.Prelude.{◌↔◌, Option, Some, None, IsSome}
-use Rattle.std.proofs.lemmas.Bool.{eq-eqb}
 use Rattle.atomic_table.specs.Seated.{TableId}
 use Rattle.fut_base.specs.declared.event.Event.{Event}
 use Rattle.fut_base.specs.declared.record.Entry.{Entry}
@@ -23,7 +22,6 @@ use Rattle.event_clock.specs.declared.view.View.{View}
 use Rattle.event_clock.specs.declared.view.Carried.{Carried}
 use Rattle.event_clock.specs.Views.{carries, only_task, without_task, after_note, noted}
 use Rattle.event_clock.specs.Seated.{Ticking, Seated}
-use Rattle.event_clock.proofs.Lists.{carries_among}
 use Rattle.order_query.specs.Reading.{Reading, Writing}
 use Rattle.run_place.specs.Placed.{Placed, IsPlace, book_of, events_in}
 use Rattle.run_book.specs.Drawn.{drawn_of, past_in}
@@ -40,33 +38,6 @@ none≢some {A} e = let P : Option A → Type 0 = λ o. IsNoneOf o in subst P e 
 -- the root task, before any event
 abbrev pub root_task : Carried
 root_task = record { task = 0; trace = [] }
-
--- a task that stands in front of a list which carries it too is carried twice
-twice : (x d : Carried) (cs : List Carried) → (x.task == x.task) ≡ true → carries x.task (x ∷ d ∷ cs) ≤ 1 → 0 < carries x.task (d ∷ cs) → ⊥
-twice x d cs hit two more =
-    let both : 1 + carries x.task (d ∷ cs) ≤ 1 = subst (λ b. (if b then 1 else 0) + carries x.task (d ∷ cs) ≤ 1) hit two in
-    omega (arith, both, more)
-
--- a list of tasks with one member, which is carried once, is that task
-pub alone : (x : Carried) (cs : List Carried) → ((c : Carried) → Among c cs ↔ Among c (x ∷ [])) → carries x.task cs ≤ 1 → cs ≡ x ∷ []
-alone x [] each few = absurd ((each x).1 (inl refl))
-alone x (c ∷ []) each few =
-    elim ((each c).0 (inl refl)) [
-      | inl e ↦ ap (λ (y : Carried). y ∷ []) (sym e)
-      | inr a ↦ absurd a
-    ]
-alone x (c ∷ d ∷ cs) each few =
-    elim ((each c).0 (inl refl)) [
-      | inl e ↦ elim ((each d).0 (inr (inl refl))) [
-        | inl f ↦ absurd (
-            let two : carries x.task (x ∷ d ∷ cs) ≤ 1 = subst (λ (y : Carried). carries x.task (y ∷ d ∷ cs) ≤ 1) (sym e) few in
-            let more : 0 < carries x.task (d ∷ cs) = subst (λ (y : Carried). 0 < carries y.task (d ∷ cs)) (sym f) (carries_among d (d ∷ cs) (inl refl)) in
-            let hit : (x.task == x.task) ≡ true = eq-eqb x.task x.task refl in
-            twice x d cs hit two more)
-        | inr a ↦ absurd a
-      ]
-      | inr a ↦ absurd a
-    ]
 
 -- by no entries all that is asked of a job holds of a task that begins
 module _ (code : Compiled) (task : TaskNow) (number : task.number ≡ 0) (which : task.which ≡ code.main) (none : task.trace.items ≡ []) where
@@ -130,8 +101,7 @@ as_root code now which args task same main none state =
 pub new_carries : (clock : Ticking) (orders : TableId) (code : Compiled) (limits : Limits) (b : BookNow) → IsBook clock orders code limits b → IsNewBook b
     → b.holder.view.tasks ≡ root_task ∷ []
 new_carries clock orders code limits b is new =
-    let tasks = b.holder.view.tasks in
-    alone root_task tasks (λ c. subst (λ f. Among c tasks ↔ Among c (carried_by f (traces_of b))) new.first (is.carried c)) (is.once 0)
+    is.carried ∙ ap (λ f. carried_by f (traces_of b)) new.first
 
 -- a new book without its root task
 left : (clock : Ticking) (orders : TableId) (code : Compiled) (limits : Limits) (b : BookNow) → IsBook clock orders code limits b → IsNewBook b
@@ -158,9 +128,7 @@ left clock orders code limits b is new =
         orders = is.listed.orders;
         creates = is.listed.creates;
       };
-      carried = λ c.
-          let R : List (Listed (ℕ × Entry)) → Type 0 = λ ts. Among c [] ↔ Among c (carried_by None (traces_of (record b { traces = ts }))) in
-          subst (λ cs. Among c cs ↔ Among c (carried_by None (traces_of b))) (sym gone) (subst R (sym none) ((λ a. a), (λ a. a)));
+      carried = gone ∙ ap (λ ts. carried_by None (traces_of (record b { traces = ts }))) (sym none);
       once = λ t. subst (λ cs. carries t cs ≤ 1) (sym gone) (omega arith);
       ended = is.ended;
       counted = record { events = is.counted.events; waiting = is.counted.waiting; running = is.counted.running; rest = is.counted.rest };

@@ -60,7 +60,7 @@ held_book clock orders code limits b h w is clock_is own known tasks writer =
             (subst (λ l. AreOrders (events_in l) b.writer.lists.english.order b.writer.lists.hebrew.order) (sym same) is.listed.orders);
         creates = is.listed.creates ∙ ap (λ l. create_count (events_in l)) (sym same);
       };
-      carried = λ c. subst (λ cs. Among c cs ↔ Among c (carried_by b.first (traces_of b))) (sym tasks) (is.carried c);
+      carried = tasks ∙ is.carried;
       once = λ t. subst (λ cs. carries t cs ≤ 1) (sym tasks) (is.once t);
       ended = λ trace a. subst (λ l. IsEndedTrace code l trace) (sym same) (is.ended trace a);
       counted = record { events = is.counted.events ∙ ap length (sym same); waiting = is.counted.waiting; running = is.counted.running; rest = is.counted.rest };

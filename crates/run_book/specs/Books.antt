@@ -140,8 +140,8 @@ pub record IsBook (clock : Ticking) (orders : TableId) (code : Compiled) (limits
   pub room : 2 * limits.events + 1 ≤ length b.writer.lists.english.order + b.writer.lists.english.room
   -- what it has is that of its entries, and each job that waits must wait
   pub listed : IsListed code b
-  -- its holder carries the tasks that have ended and, before it was given out, the root task, each with its trace, and once
-  pub carried : (c : Carried) → Among c b.holder.view.tasks ↔ Among c (carried_by b.first (traces_of b))
+  -- its holder carries the tasks that have ended, each with its trace, and before it was given out the root task; and each once
+  pub carried : b.holder.view.tasks ≡ carried_by b.first (traces_of b)
   pub once : (t : ℕ) → carries t b.holder.view.tasks ≤ 1
   -- each of these traces is that of its task, which has ended
   pub ended : (trace : List (ℕ × Event)) → Among trace (traces_of b) → IsEndedTrace code (entries_of b) trace
