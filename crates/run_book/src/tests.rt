@@ -307,6 +307,7 @@ fn write<J: Run>(
     let pass = clock.note(second, task.number());
     let given = orders.split(reader);
     place.learn(clock, orders, pass, given);
+    place.is_placed();
     task.feed(code, ticket, entry);
     Some(Job { task, place, pace })
 }

@@ -166,7 +166,7 @@ invariant_of-result g c =
     (subst (λ (p : Seated). IsJoin p.view c.note-pass.result.view place.pass.view) c.split-pass.ensures.old.0 c.learn.ensures.pass) in
     let new = c.feed.new.self in
     job_written clock orders code j is 1000000 cell value stood ready asked room k event w place new c.job.inside.pace join c.in-At.ensures.drawn.1 c.number.ensures
-    (ap (λ (p : Placed). p.at.number) c.place-2.view_is ∙ ap (λ (s : Strand). s.number) c.split-pass.ensures.strand.0) act c.learn.self.invariant at back_is
+    (ap (λ (p : Placed). p.at.number) c.place-2.view_is ∙ ap (λ (s : Strand). s.number) c.split-pass.ensures.strand.0) act c.is_placed.ensures at back_is
     c.feed.ensures.task.0 c.feed.ensures.task.1 (ap (λ (y : Spot). y.ended) c.feed.ensures.spot)
     (trace_fed new.trace.items ready.trace.items k _ event c.feed.ensures.trace refl)
     (feeds_as code c.args.code.now ready ready new (Writes cell back) (Writes cell back) c.requires.run.2 refl refl
