@@ -307,6 +307,7 @@ fn write<J: Run>(
     let pass = clock.note(second, task.number());
     let given = orders.split(reader);
     place.learn(clock, orders, pass, given);
+    place.is_placed();
     task.feed(code, ticket, entry);
     Some(Job { task, place, pace })
 }
@@ -511,7 +512,32 @@ fn a_sync_waits_for_both_children(rt: HostRuntime) -> Result<(), Fail> {
     Ok(())
 }
 
-// Jobs go on, one after the other, until there is none: how many tasks have not ended, and how many traces there are.
+// What is in one list comes behind what is in another.
+fn append<T: Drop>(work: &mut Ready<T>, jobs: Ready<T>) -> Result<(), NoMemory> {
+    let mut jobs = jobs;
+    while let Some(job) = jobs.pop() {
+        work.reserve()?;
+        work.push(job);
+    }
+    Ok(())
+}
+
+// Jobs go on, one after the other, until there is none.
+fn turns<J: Run>(alloc: Global, run: &mut Alone<J>, root: Job<J>) -> Result<(), NoMemory> {
+    let mut work = Ready::make(alloc);
+    work.push(root);
+    for _turn in 0..50 {
+        let Some(job) = work.pop() else {
+            break;
+        };
+        if let Some(jobs) = went(run.turn(job)) {
+            append(&mut work, jobs)?;
+        }
+    }
+    Ok(())
+}
+
+// A run until there is no job: how many tasks have not ended, and how many traces there are.
 fn runs_whole<J: Run>(
     alloc: Global,
     parts: Parts,
@@ -524,31 +550,25 @@ fn runs_whole<J: Run>(
     requires some { (J.hands ≡ 2) × (J.limits.events + 3 ≤ J.places) }
 {
     let (mut run, root, _second, _reader) = begin::<J>(alloc, parts, blanks).ok()?;
-    let mut work = Ready::make(alloc);
-    work.push(root);
-    for _turn in 0..50 {
-        let Some(job) = work.pop() else {
-            break;
-        };
-        if let Some(jobs) = went(run.turn(job)) {
-            let mut jobs = jobs;
-            while let Some(job) = jobs.pop() {
-                work.reserve().ok()?;
-                work.push(job);
-            }
-        }
-    }
+    turns(alloc, &mut run, root).ok()?;
     let unended = run.book.unended();
     Some((unended, run.finish(alloc).traces.len()))
+}
+
+// What comes of the run of a text.
+fn whole_of(alloc: Global, text: &[u8]) -> Result<Option<(u32, usize)>, NoMemory>
+    requires { length text.now + 1 < 2 ^ 32 }
+{
+    let parts = parts_of(alloc, text, 50, 5)?;
+    let blanks = (Blank::new(2), Blank::new(2), Blank::new(53));
+    Ok(runs_whole::<Brand>(alloc, parts, blanks))
 }
 
 #[test]
 fn runs_come_to_their_end(rt: HostRuntime) -> Result<(), Fail> {
     let alloc = rt.alloc();
-    for (text, tasks) in [(ROOT_ALONE, 1), (GOT_TWICE, 3), (SYNCS, 3)] {
-        let parts = parts_of(alloc, text, 50, 5)?;
-        let blanks = (Blank::new(2), Blank::new(2), Blank::new(53));
-        assert_eq!(rt; runs_whole::<Brand>(alloc, parts, blanks), Some((0, tasks)));
-    }
+    assert_eq!(rt; whole_of(alloc, ROOT_ALONE)?, Some((0, 1)));
+    assert_eq!(rt; whole_of(alloc, GOT_TWICE)?, Some((0, 3)));
+    assert_eq!(rt; whole_of(alloc, SYNCS)?, Some((0, 3)));
     Ok(())
 }

@@ -1,4 +1,4 @@
-use Rattle.run_book.proofs.tests.runs_come_to_their_end.Given as goal
+use Rattle.run_book.proofs.tests.whole_of.Given as goal
 
 abbrev pub ghosts-runs_whole : goal.ghosts-runs_whole
 ghosts-runs_whole g a = record {
