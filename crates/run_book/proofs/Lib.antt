@@ -19,6 +19,7 @@ pub mod Handles
 pub mod Fitting
 pub mod Feeding
 pub mod Syncing
+pub mod Begun
 pub mod Blocks
 pub mod Lining
 pub mod Changing
@@ -47,3 +48,4 @@ pub mod Waiting
 pub mod Leaving
 pub mod Written
 pub mod Parts
+pub mod Begun
