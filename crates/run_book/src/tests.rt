@@ -426,7 +426,11 @@ fn a_get_waits_for_the_end(rt: HostRuntime) -> Result<(), Fail> {
 }
 
 // A job spawns a child, whose spawn is spent: how many jobs there were, whose job comes back, the finish, and how many jobs there are.
-fn spawns_spent<J: Run>(alloc: Global, run: Alone<J>, root: Job<J>) -> Option<(usize, u32, Finish, u32)> {
+fn spawns_spent<J: Run>(
+    alloc: Global,
+    run: Alone<J>,
+    root: Job<J>,
+) -> Option<(usize, u32, Finish, u32)> {
     let mut run = run;
     let mut jobs = went(run.turn(root))?;
     let many = jobs.len();
@@ -524,7 +528,12 @@ fn gives_out<J: Run>(run: &mut Alone<J>, child: Job<J>) -> Option<(usize, Job<J>
 }
 
 // Two children end, and then their parent goes on and ends.
-fn joins_both<J: Run>(run: &mut Alone<J>, parked: bool, one: Job<J>, two: Job<J>) -> Option<Synced> {
+fn joins_both<J: Run>(
+    run: &mut Alone<J>,
+    parked: bool,
+    one: Job<J>,
+    two: Job<J>,
+) -> Option<Synced> {
     let first = went(run.turn(two))?.len();
     let (second, root) = gives_out(run, one)?;
     let root = went(run.turn(root))?.pop()?;
