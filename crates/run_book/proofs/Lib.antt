@@ -19,7 +19,6 @@ pub mod Handles
 pub mod Fitting
 pub mod Feeding
 pub mod Syncing
-pub mod Begun
 pub mod Blocks
 pub mod Lining
 pub mod Changing
@@ -48,4 +47,3 @@ pub mod Waiting
 pub mod Leaving
 pub mod Written
 pub mod Parts
-pub mod Begun
