@@ -27,6 +27,7 @@ use std::sync::ledger::Blank;
 use std::test::Fail;
 use task_code::code::Code;
 use task_code::task::Wish;
+use task_machine::trace::Trace;
 
 const ROOT_ALONE: &[u8] = b"task main() int { return 0; }";
 
@@ -198,6 +199,10 @@ impl<J: Run> Alone<J> {
         }
     }
 
+    fn unended(&self) -> u32 {
+        self.book.unended()
+    }
+
     fn finish(self, alloc: Global) -> Gathered<J> {
         let Alone { book, hand, .. } = self;
         let mut hands = Ready::make(alloc);
@@ -214,6 +219,32 @@ fn went<T: Drop>(stepped: Stepped<T>) -> Option<Ready<T>> {
     }
 }
 
+// The job whose event is over the limits, and the finish.
+fn spent<T: Drop>(stepped: Stepped<T>) -> Option<(T, Finish)> {
+    match stepped {
+        Stepped::Spent { job, finish } => Some((job, finish)),
+        _ => None,
+    }
+}
+
+// The first two of a list.
+fn both<T: Drop>(jobs: Ready<T>) -> Option<(T, T)> {
+    let mut jobs = jobs;
+    let first = jobs.pop()?;
+    let second = jobs.pop()?;
+    Some((first, second))
+}
+
+// The number of a job's task.
+fn number_of<J: Run>(job: &Job<J>) -> u32 {
+    job.task.number()
+}
+
+// The number of the strand on which a job stands.
+fn strand_of<J: Run>(job: &Job<J>) -> u32 {
+    job.place.at.number
+}
+
 /// What came of a program whose root is alone.
 #[derive(Clone, Copy, Debug, PartialEq, Eq)]
 struct RootAlone {
@@ -222,6 +253,30 @@ struct RootAlone {
     traces: usize,
     ticket: u32,
     more: bool,
+}
+
+// How many traces there are, the first one's first ticket, and whether it has more.
+fn traces_of(traces: Ready<Trace>) -> Option<(usize, u32, bool)> {
+    let mut traces = traces;
+    let many = traces.len();
+    let mut trace = traces.pop()?;
+    let (ticket, _entry) = trace.pop()?;
+    Some((many, ticket, trace.pop().is_some()))
+}
+
+// The root's job ends, and the run with it.
+fn ends_alone<J: Run>(alloc: Global, run: Alone<J>, root: Job<J>) -> Option<RootAlone> {
+    let mut run = run;
+    let jobs = went(run.turn(root))?.len();
+    let unended = run.unended();
+    let (traces, ticket, more) = traces_of(run.finish(alloc).traces)?;
+    Some(RootAlone {
+        jobs,
+        unended,
+        traces,
+        ticket,
+        more,
+    })
 }
 
 // The root ends, and its trace has one entry.
@@ -236,20 +291,8 @@ fn root_alone<J: Run>(
     requires sizes { (blanks.0.parts ≡ J.hands) × (blanks.1.parts ≡ J.hands) × (blanks.2.parts ≡ J.places) }
     requires some { (J.hands ≡ 2) × (J.limits.events + 3 ≤ J.places) }
 {
-    let (mut run, root, _second, _reader) = begin::<J>(alloc, parts, blanks).ok()?;
-    let jobs = went(run.turn(root))?.len();
-    let unended = run.book.unended();
-    let mut gathered = run.finish(alloc);
-    let traces = gathered.traces.len();
-    let mut trace = gathered.traces.pop()?;
-    let (ticket, _entry) = trace.pop()?;
-    Some(RootAlone {
-        jobs,
-        unended,
-        traces,
-        ticket,
-        more: trace.pop().is_some(),
-    })
+    let (run, root, _second, _reader) = begin::<J>(alloc, parts, blanks).ok()?;
+    ends_alone(alloc, run, root)
 }
 
 #[test]
@@ -383,6 +426,19 @@ fn a_get_waits_for_the_end(rt: HostRuntime) -> Result<(), Fail> {
     Ok(())
 }
 
+// A job spawns a child, whose spawn is spent: how many jobs there were, whose job comes back, the finish, and how many jobs there are.
+fn spawns_spent<J: Run>(
+    alloc: Global,
+    run: Alone<J>,
+    root: Job<J>,
+) -> Option<(usize, u32, Finish, u32)> {
+    let mut run = run;
+    let mut jobs = went(run.turn(root))?;
+    let many = jobs.len();
+    let (job, finish) = spent(run.turn(jobs.pop()?))?;
+    Some((many, number_of(&job), finish, run.finish(alloc).running))
+}
+
 // Below a bound of one event a second spawn is spent, and hands its job back: how many jobs the first gave, whose job comes back, the
 // finish, and how many jobs there are.
 fn spawns_twice<J: Run>(
@@ -396,14 +452,8 @@ fn spawns_twice<J: Run>(
     requires sizes { (blanks.0.parts ≡ J.hands) × (blanks.1.parts ≡ J.hands) × (blanks.2.parts ≡ J.places) }
     requires some { (J.hands ≡ 2) × (J.limits.events + 3 ≤ J.places) }
 {
-    let (mut run, root, _second, _reader) = begin::<J>(alloc, parts, blanks).ok()?;
-    let mut jobs = went(run.turn(root))?;
-    let many = jobs.len();
-    let child = jobs.pop()?;
-    let Stepped::Spent { job, finish } = run.turn(child) else {
-        return None;
-    };
-    Some((many, job.task.number(), finish, run.finish(alloc).running))
+    let (run, root, _second, _reader) = begin::<J>(alloc, parts, blanks).ok()?;
+    spawns_spent(alloc, run, root)
 }
 
 #[test]
@@ -416,6 +466,13 @@ fn a_spent_spawn_hands_the_job_back(rt: HostRuntime) -> Result<(), Fail> {
         Some((2, 1, Finish::Events { bound: 1 }, 2))
     );
     Ok(())
+}
+
+// A job creates a future, and its next create is spent: whose job comes back, and the finish.
+fn creates_spent<J: Run>(run: &mut Alone<J>, root: Job<J>) -> Option<(u32, Finish)> {
+    let (_child, root) = both(went(run.turn(root))?)?;
+    let (job, finish) = spent(run.turn(root))?;
+    Some((number_of(&job), finish))
 }
 
 // Where one future may be created a second create is spent: whose job comes back, and the finish.
@@ -431,13 +488,7 @@ fn creates_twice<J: Run>(
     requires some { (J.hands ≡ 2) × (J.limits.events + 3 ≤ J.places) }
 {
     let (mut run, root, _second, _reader) = begin::<J>(alloc, parts, blanks).ok()?;
-    let mut jobs = went(run.turn(root))?;
-    let _child = jobs.pop()?;
-    let root = jobs.pop()?;
-    let Stepped::Spent { job, finish } = run.turn(root) else {
-        return None;
-    };
-    Some((job.task.number(), finish))
+    creates_spent(&mut run, root)
 }
 
 #[test]
@@ -463,6 +514,42 @@ struct Synced {
     unended: u32,
 }
 
+// A job spawns two children, and its sync waits: whether it does, and the children's jobs.
+fn spawns_both<J: Run>(run: &mut Alone<J>, root: Job<J>) -> Option<(bool, Job<J>, Job<J>)> {
+    let (one, root) = both(went(run.turn(root))?)?;
+    let (two, root) = both(went(run.turn(root))?)?;
+    Some((matches!(run.turn(root), Stepped::Parked), one, two))
+}
+
+// A child ends, which gives out the one job that waits for it: how many jobs come, and that job.
+fn gives_out<J: Run>(run: &mut Alone<J>, child: Job<J>) -> Option<(usize, Job<J>)> {
+    let mut jobs = went(run.turn(child))?;
+    let many = jobs.len();
+    Some((many, jobs.pop()?))
+}
+
+// Two children end, and then their parent goes on and ends.
+fn joins_both<J: Run>(
+    run: &mut Alone<J>,
+    parked: bool,
+    one: Job<J>,
+    two: Job<J>,
+) -> Option<Synced> {
+    let first = went(run.turn(two))?.len();
+    let (second, root) = gives_out(run, one)?;
+    let root = went(run.turn(root))?.pop()?;
+    let at = strand_of(&root);
+    let last = went(run.turn(root))?.len();
+    Some(Synced {
+        parked,
+        first,
+        second,
+        at,
+        last,
+        unended: run.unended(),
+    })
+}
+
 // The sync waits until both children have ended.
 fn syncs<J: Run>(alloc: Global, parts: Parts, blanks: (Blank, Blank, Blank)) -> Option<Synced>
     requires run { (parts.code ≡ J.code) × (parts.clock ≡ J.clock) × (parts.orders ≡ J.orders) × (parts.limits ≡ J.limits) }
@@ -472,27 +559,8 @@ fn syncs<J: Run>(alloc: Global, parts: Parts, blanks: (Blank, Blank, Blank)) -> 
     requires some { (J.hands ≡ 2) × (J.limits.events + 3 ≤ J.places) }
 {
     let (mut run, root, _second, _reader) = begin::<J>(alloc, parts, blanks).ok()?;
-    let mut jobs = went(run.turn(root))?;
-    let one = jobs.pop()?;
-    let root = jobs.pop()?;
-    let mut jobs = went(run.turn(root))?;
-    let two = jobs.pop()?;
-    let root = jobs.pop()?;
-    let parked = matches!(run.turn(root), Stepped::Parked);
-    let first = went(run.turn(two))?.len();
-    let mut jobs = went(run.turn(one))?;
-    let second = jobs.len();
-    let root = went(run.turn(jobs.pop()?))?.pop()?;
-    let at = root.place.at.number;
-    let last = went(run.turn(root))?.len();
-    Some(Synced {
-        parked,
-        first,
-        second,
-        at,
-        last,
-        unended: run.book.unended(),
-    })
+    let (parked, one, two) = spawns_both(&mut run, root)?;
+    joins_both(&mut run, parked, one, two)
 }
 
 #[test]
