@@ -177,7 +177,9 @@ module _ (clock : Ticking) (orders : TableId) (code : Compiled) (limits : Limits
       record {
         ended = (old.ended.0, ap (λ l. last_of l t) (past_one (entries_of b) k e) ∙ stays);
         led = λ P typed of. (let (which, args, s, starts, leads) = old.led P typed of in (
-          which, args, s,
+          which,
+          args,
+          s,
           subst (λ l. StartsAs P l t which args) (sym (events_one (entries_of b) k e)) (starts_more P (events_in (entries_of b)) (e ∷ []) t which args starts),
           leads,
         ));

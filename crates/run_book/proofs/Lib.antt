@@ -45,5 +45,3 @@ pub mod Staged
 pub mod Holding
 pub mod Waiting
 pub mod Leaving
-pub mod Written
-pub mod Parts

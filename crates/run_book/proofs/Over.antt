@@ -145,7 +145,9 @@ module _ (clock : Ticking) (orders : TableId) (code : Compiled) (limits : Limits
         let (stop, at_event, wishes) = stands P args s typed of state in
         let before : IsStateAfter P j.task.which args (events_in (drawn_of j.task.trace.items)) s =
         subst (λ (l : List Event). IsStateAfter P j.task.which args l s) (sym (events_drawn j.task.trace.items)) state.state in (
-          j.task.which, args, effect_of stop (Ends value),
+          j.task.which,
+          args,
+          effect_of stop (Ends value),
           subst (λ n. StartsAs P (events_in after) n j.task.which args) (sym task_here)
               (subst (λ l. StartsAs P l j.task.number j.task.which args) (sym (events_one (entries_of b) k end_of))
               (starts_more P (events_in (entries_of b)) (end_of ∷ []) j.task.number j.task.which args starts)),

@@ -6,5 +6,4 @@ pub mod Books
 pub mod Tabling
 pub mod Steps
 pub mod Waking
-pub mod Trials
 pub mod Coming

@@ -14,5 +14,3 @@ pub mod going_on;
 pub mod job;
 pub mod line;
 pub mod stepped;
-#[cfg(test)]
-mod tests;

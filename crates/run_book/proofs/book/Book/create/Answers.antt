@@ -54,7 +54,7 @@ asked_create-job-requires g c =
       code = c.requires.run.2;
       wish = c.requires.wish;
       few = let low = lines_few g.J.Run.clock g.J.Run.orders g.J.Run.code g.J.Run.limits _ c.self.invariant in let s = c.self.inside.lines.ok.0 in omega
-      (arith, low, s);
+          (arith, low, s);
     }
 
 pub invariant_of-self : goal.invariant_of-self
@@ -256,7 +256,7 @@ release-requires g c =
       carried = ready_carried code (entries_of b) held.task held.at held.reach held.pace u back_ready;
       orders = ready_orders code b u (ap (λ (x : View). book_of x) away ∙ known.known) is.listed;
       knew = reader_knew clock orders j held.reader u job.place t.place.2
-      (subst (λ l. IsPrefix (known_to j) l) (sym (ap (λ (x : View). book_of x) away)) (t.told.second 0));
+          (subst (λ l. IsPrefix (known_to j) l) (sym (ap (λ (x : View). book_of x) away)) (t.told.second 0));
       strand = ready_strand code (entries_of b) held.task held.at held.reach held.pace u back_ready;
       job = ready_job clock orders code (entries_of b) held.task held.at held.reach held.pace u back_ready;
     }
@@ -613,7 +613,7 @@ begin-requires g c =
     let numbers : AreNext kid one.number two.number = subst (λ n. AreNext n one.number two.number) (sym c.next_strand-kid.ensures)
     c.create-strands.ensures.numbers in
     let extends : Extends (events_in (entries_of b)) j.task.number j.place.at.number (Creates which child one.number two.number xs) en he
-        writer.lists.english.order writer.lists.hebrew.order =
+    writer.lists.english.order writer.lists.hebrew.order =
     subst (λ (y : Strand). Extends (events_in (entries_of b)) j.task.number y.number (Creates which child one.number two.number xs) en he
     writer.lists.english.order writer.lists.hebrew.order) t.place.0 (c.create-strands.ensures.extends (events_in (entries_of b)) j.task.number which xs) in
     let belong = subst (λ (y : Strand). Belongs (events_in (entries_of b)) j.task.number y (Creates which child one.number two.number xs) one
@@ -635,7 +635,7 @@ begin-requires g c =
       home = (c.draw.ensures.clock ∙ t.clock ∙ is.home.0, c.create-strands.new.placer.own ∙ ap (λ y. y.0) c.create-strands.ensures.put.home ∙ c.requires.run.1);
       carried = ready_carried code later coming.task one coming.reach c.fork-pace.result u kid_ready;
       orders = subst (λ y. IsSound (events_in y) × AreOrders (events_in y) writer.lists.english.order writer.lists.hebrew.order) (sym kid_ready.known)
-      (sound, split.orders);
+          (sound, split.orders);
       strand = ready_strand code later coming.task one coming.reach c.fork-pace.result u kid_ready;
       job = ready_job clock orders code later coming.task one coming.reach c.fork-pace.result u kid_ready;
     }
@@ -704,7 +704,7 @@ release-requires-2 g c =
     let numbers : AreNext kid one.number two.number = subst (λ n. AreNext n one.number two.number) (sym c.next_strand-kid.ensures)
     c.create-strands.ensures.numbers in
     let extends : Extends (events_in (entries_of b)) j.task.number j.place.at.number (Creates which child one.number two.number xs) en he
-        writer.lists.english.order writer.lists.hebrew.order =
+    writer.lists.english.order writer.lists.hebrew.order =
     subst (λ (y : Strand). Extends (events_in (entries_of b)) j.task.number y.number (Creates which child one.number two.number xs) en he
     writer.lists.english.order writer.lists.hebrew.order) t.place.0 (c.create-strands.ensures.extends (events_in (entries_of b)) j.task.number which xs) in
     let belong = subst (λ (y : Strand). Belongs (events_in (entries_of b)) j.task.number y (Creates which child one.number two.number xs) one
@@ -744,12 +744,15 @@ release-requires-2 g c =
     (subst (λ y. IsPrefix (known_to j) y) known.known (t.told.second 0)) in
     record {
       run = (c.requires.run.0, c.requires.run.1);
-      home = (c.begin.ensures.holder.1 ∙ c.draw.ensures.clock ∙ t.clock ∙ is.home.0, ap (λ (y : Writing). y.home) c.begin.ensures.writer
-      ∙ c.create-strands.new.placer.own ∙ ap (λ y. y.0) c.create-strands.ensures.put.home ∙ c.requires.run.1,
-          ap (λ (y : Reading). y.home) t.place.2 ∙ job.place.orders_is);
+      home = (
+        c.begin.ensures.holder.1 ∙ c.draw.ensures.clock ∙ t.clock ∙ is.home.0,
+        ap (λ (y : Writing). y.home) c.begin.ensures.writer
+            ∙ c.create-strands.new.placer.own ∙ ap (λ y. y.0) c.create-strands.ensures.put.home ∙ c.requires.run.1,
+        ap (λ (y : Reading). y.home) t.place.2 ∙ job.place.orders_is,
+      );
       carried = ready_carried code later new two held.reach c.fork-pace.new.pace u2 own_ready;
       orders = subst (λ y. IsSound (events_in y) × AreOrders (events_in y) c.begin.new.writer.lists.english.order c.begin.new.writer.lists.hebrew.order)
-      (sym own_ready.known)
+          (sym own_ready.known)
           (sound, subst (λ (y : Writing). AreOrders (events_in later) y.lists.english.order y.lists.hebrew.order) (sym c.begin.ensures.writer) split.orders);
       knew = reader_knew clock orders j held.reader u2 job.place t.place.2 (subst (λ y. IsPrefix (known_to j) y) (sym own_ready.known) begins);
       strand = ready_strand code later new two held.reach c.fork-pace.new.pace u2 own_ready;
@@ -820,7 +823,7 @@ invariant_of-self-2 g c =
     let numbers : AreNext kid one.number two.number = subst (λ n. AreNext n one.number two.number) (sym c.next_strand-kid.ensures)
     c.create-strands.ensures.numbers in
     let extends : Extends (events_in (entries_of b)) j.task.number j.place.at.number (Creates which child one.number two.number xs) en he
-        writer.lists.english.order writer.lists.hebrew.order =
+    writer.lists.english.order writer.lists.hebrew.order =
     subst (λ (y : Strand). Extends (events_in (entries_of b)) j.task.number y.number (Creates which child one.number two.number xs) en he
     writer.lists.english.order writer.lists.hebrew.order) t.place.0 (c.create-strands.ensures.extends (events_in (entries_of b)) j.task.number which xs) in
     let belong = subst (λ (y : Strand). Belongs (events_in (entries_of b)) j.task.number y (Creates which child one.number two.number xs) one
@@ -851,7 +854,12 @@ invariant_of-self-2 g c =
     (record { all = is.listed.tasks; each = is.listed.lines }) which child kid (kid + 1) xs refl in
     let lines_are : c.push_reserved.new.self.items ≡ lines ++ new_line None ∷ [] = c.push_reserved.ensures.items ∙ ap (λ y. lines ++ y ∷ [])
     c.line_of.ensures in
-    let after : BookNow = record b { holder = h; writer = w; lines = c.push_reserved.new.self.items; creates = b0.creates + 1; counts = c.fork-pace.new.self
+    let after : BookNow = record b {
+      holder = h;
+      writer = w;
+      lines = c.push_reserved.new.self.items;
+      creates = b0.creates + 1;
+      counts = c.fork-pace.new.self;
     } in
     forked_book clock orders code limits b j v k event is d after new.number coming.task.number refl
     (c.release-2.ensures.holder.1 ∙ c.begin.ensures.holder.1 ∙ c.draw.ensures.clock ∙ t.clock)
@@ -932,7 +940,12 @@ returns-clause-forks g c =
     let w = c.release-2.new.writer in
     let view_is : h.view ≡ after_note new.number (after_note coming.task.number (drawn k event v)) =
     c.release-2.ensures.holder.0 ∙ ap (λ y. after_note new.number y) (c.begin.ensures.holder.0 ∙ ap (λ y. after_note coming.task.number y) drew) in
-    let after : BookNow = record b { holder = h; writer = w; lines = c.push_reserved.new.self.items; creates = b0.creates + 1; counts = c.fork-pace.new.self
+    let after : BookNow = record b {
+      holder = h;
+      writer = w;
+      lines = c.push_reserved.new.self.items;
+      creates = b0.creates + 1;
+      counts = c.fork-pace.new.self;
     } in
     let entries : entries_of after ≡ later = ap (λ (y : View). own_list y) view_is ∙ drawn_own clock orders code limits b j v k event is d in
     let room_is = if_ok c.asked_create-job.result.1 _ (λ r. (r.1.items ≡ []) × (2 ≤ r.1.spare)) c.asked_create-job.ensures.room c.in-Ok.is in

@@ -945,7 +945,7 @@ begin-requires-clause-carried g c =
     let two = c.spawn-strands.result.1 in
     let numbers : AreNext kid one.number two.number = subst (λ n. AreNext n one.number two.number) (sym c.next_strand-kid.ensures) c.spawn-strands.ensures.numbers in
     let extends : Extends (events_in (entries_of b)) j.task.number j.place.at.number (Spawns which child one.number two.number xs) en he
-        writer.lists.english.order writer.lists.hebrew.order =
+    writer.lists.english.order writer.lists.hebrew.order =
     subst (λ (y : Strand). Extends (events_in (entries_of b)) j.task.number y.number (Spawns which child one.number two.number xs) en he
     writer.lists.english.order writer.lists.hebrew.order) t.place.0 (c.spawn-strands.ensures.extends (events_in (entries_of b)) j.task.number which child xs) in
     let belong = subst (λ (y : Strand). Belongs (events_in (entries_of b)) j.task.number y (Spawns which child one.number two.number xs) one
@@ -1023,7 +1023,7 @@ begin-requires-clause-orders g c =
     let two = c.spawn-strands.result.1 in
     let numbers : AreNext kid one.number two.number = subst (λ n. AreNext n one.number two.number) (sym c.next_strand-kid.ensures) c.spawn-strands.ensures.numbers in
     let extends : Extends (events_in (entries_of b)) j.task.number j.place.at.number (Spawns which child one.number two.number xs) en he
-        writer.lists.english.order writer.lists.hebrew.order =
+    writer.lists.english.order writer.lists.hebrew.order =
     subst (λ (y : Strand). Extends (events_in (entries_of b)) j.task.number y.number (Spawns which child one.number two.number xs) en he
     writer.lists.english.order writer.lists.hebrew.order) t.place.0 (c.spawn-strands.ensures.extends (events_in (entries_of b)) j.task.number which child xs) in
     let belong = subst (λ (y : Strand). Belongs (events_in (entries_of b)) j.task.number y (Spawns which child one.number two.number xs) one
@@ -1101,7 +1101,7 @@ begin-requires-clause-strand g c =
     let two = c.spawn-strands.result.1 in
     let numbers : AreNext kid one.number two.number = subst (λ n. AreNext n one.number two.number) (sym c.next_strand-kid.ensures) c.spawn-strands.ensures.numbers in
     let extends : Extends (events_in (entries_of b)) j.task.number j.place.at.number (Spawns which child one.number two.number xs) en he
-        writer.lists.english.order writer.lists.hebrew.order =
+    writer.lists.english.order writer.lists.hebrew.order =
     subst (λ (y : Strand). Extends (events_in (entries_of b)) j.task.number y.number (Spawns which child one.number two.number xs) en he
     writer.lists.english.order writer.lists.hebrew.order) t.place.0 (c.spawn-strands.ensures.extends (events_in (entries_of b)) j.task.number which child xs) in
     let belong = subst (λ (y : Strand). Belongs (events_in (entries_of b)) j.task.number y (Spawns which child one.number two.number xs) one
@@ -1179,7 +1179,7 @@ begin-requires-clause-job g c =
     let two = c.spawn-strands.result.1 in
     let numbers : AreNext kid one.number two.number = subst (λ n. AreNext n one.number two.number) (sym c.next_strand-kid.ensures) c.spawn-strands.ensures.numbers in
     let extends : Extends (events_in (entries_of b)) j.task.number j.place.at.number (Spawns which child one.number two.number xs) en he
-        writer.lists.english.order writer.lists.hebrew.order =
+    writer.lists.english.order writer.lists.hebrew.order =
     subst (λ (y : Strand). Extends (events_in (entries_of b)) j.task.number y.number (Spawns which child one.number two.number xs) en he
     writer.lists.english.order writer.lists.hebrew.order) t.place.0 (c.spawn-strands.ensures.extends (events_in (entries_of b)) j.task.number which child xs) in
     let belong = subst (λ (y : Strand). Belongs (events_in (entries_of b)) j.task.number y (Spawns which child one.number two.number xs) one
@@ -1226,9 +1226,11 @@ release-requires-2-clause-home g c =
     let known : IsKnown code (entries_of b) j b.holder.view.tasks v = job_known clock orders code limits b j v is job t.told t.own.0 t.one in
     let ready : IsReady code (entries_of b) held.task held.at held.reach held.pace v =
     ready_as code (entries_of b) j.task held.task j.place.at held.at j.place.table held.reach j.pace held.pace v
-    (known_ready code b j v v is.listed known refl refl) t.task.0 t.place.0 t.place.1 t.task.1 in
-    (c.begin.ensures.holder.1 ∙ c.draw.ensures.clock ∙ t.clock ∙ is.home.0, ap (λ (y : Writing). y.home) c.begin.ensures.writer ∙ c.spawn-strands.new.placer.own ∙ ap (λ y. y.0) c.spawn-strands.ensures.put.home ∙ c.requires.run.1,
-    ap (λ (y : Reading). y.home) t.place.2 ∙ job.place.orders_is)
+    (known_ready code b j v v is.listed known refl refl) t.task.0 t.place.0 t.place.1 t.task.1 in (
+      c.begin.ensures.holder.1 ∙ c.draw.ensures.clock ∙ t.clock ∙ is.home.0,
+      ap (λ (y : Writing). y.home) c.begin.ensures.writer ∙ c.spawn-strands.new.placer.own ∙ ap (λ y. y.0) c.spawn-strands.ensures.put.home ∙ c.requires.run.1,
+      ap (λ (y : Reading). y.home) t.place.2 ∙ job.place.orders_is,
+    )
 
 pub release-requires-2-clause-carried : goal.release-requires-2-clause-carried
 release-requires-2-clause-carried g c =
@@ -1294,7 +1296,7 @@ release-requires-2-clause-carried g c =
     let two = c.spawn-strands.result.1 in
     let numbers : AreNext kid one.number two.number = subst (λ n. AreNext n one.number two.number) (sym c.next_strand-kid.ensures) c.spawn-strands.ensures.numbers in
     let extends : Extends (events_in (entries_of b)) j.task.number j.place.at.number (Spawns which child one.number two.number xs) en he
-        writer.lists.english.order writer.lists.hebrew.order =
+    writer.lists.english.order writer.lists.hebrew.order =
     subst (λ (y : Strand). Extends (events_in (entries_of b)) j.task.number y.number (Spawns which child one.number two.number xs) en he
     writer.lists.english.order writer.lists.hebrew.order) t.place.0 (c.spawn-strands.ensures.extends (events_in (entries_of b)) j.task.number which child xs) in
     let belong = subst (λ (y : Strand). Belongs (events_in (entries_of b)) j.task.number y (Spawns which child one.number two.number xs) one
@@ -1391,7 +1393,7 @@ release-requires-2-clause-orders g c =
     let two = c.spawn-strands.result.1 in
     let numbers : AreNext kid one.number two.number = subst (λ n. AreNext n one.number two.number) (sym c.next_strand-kid.ensures) c.spawn-strands.ensures.numbers in
     let extends : Extends (events_in (entries_of b)) j.task.number j.place.at.number (Spawns which child one.number two.number xs) en he
-        writer.lists.english.order writer.lists.hebrew.order =
+    writer.lists.english.order writer.lists.hebrew.order =
     subst (λ (y : Strand). Extends (events_in (entries_of b)) j.task.number y.number (Spawns which child one.number two.number xs) en he
     writer.lists.english.order writer.lists.hebrew.order) t.place.0 (c.spawn-strands.ensures.extends (events_in (entries_of b)) j.task.number which child xs) in
     let belong = subst (λ (y : Strand). Belongs (events_in (entries_of b)) j.task.number y (Spawns which child one.number two.number xs) one
@@ -1489,7 +1491,7 @@ release-requires-2-clause-knew g c =
     let two = c.spawn-strands.result.1 in
     let numbers : AreNext kid one.number two.number = subst (λ n. AreNext n one.number two.number) (sym c.next_strand-kid.ensures) c.spawn-strands.ensures.numbers in
     let extends : Extends (events_in (entries_of b)) j.task.number j.place.at.number (Spawns which child one.number two.number xs) en he
-        writer.lists.english.order writer.lists.hebrew.order =
+    writer.lists.english.order writer.lists.hebrew.order =
     subst (λ (y : Strand). Extends (events_in (entries_of b)) j.task.number y.number (Spawns which child one.number two.number xs) en he
     writer.lists.english.order writer.lists.hebrew.order) t.place.0 (c.spawn-strands.ensures.extends (events_in (entries_of b)) j.task.number which child xs) in
     let belong = subst (λ (y : Strand). Belongs (events_in (entries_of b)) j.task.number y (Spawns which child one.number two.number xs) one
@@ -1587,7 +1589,7 @@ release-requires-2-clause-strand g c =
     let two = c.spawn-strands.result.1 in
     let numbers : AreNext kid one.number two.number = subst (λ n. AreNext n one.number two.number) (sym c.next_strand-kid.ensures) c.spawn-strands.ensures.numbers in
     let extends : Extends (events_in (entries_of b)) j.task.number j.place.at.number (Spawns which child one.number two.number xs) en he
-        writer.lists.english.order writer.lists.hebrew.order =
+    writer.lists.english.order writer.lists.hebrew.order =
     subst (λ (y : Strand). Extends (events_in (entries_of b)) j.task.number y.number (Spawns which child one.number two.number xs) en he
     writer.lists.english.order writer.lists.hebrew.order) t.place.0 (c.spawn-strands.ensures.extends (events_in (entries_of b)) j.task.number which child xs) in
     let belong = subst (λ (y : Strand). Belongs (events_in (entries_of b)) j.task.number y (Spawns which child one.number two.number xs) one
@@ -1684,7 +1686,7 @@ release-requires-2-clause-job g c =
     let two = c.spawn-strands.result.1 in
     let numbers : AreNext kid one.number two.number = subst (λ n. AreNext n one.number two.number) (sym c.next_strand-kid.ensures) c.spawn-strands.ensures.numbers in
     let extends : Extends (events_in (entries_of b)) j.task.number j.place.at.number (Spawns which child one.number two.number xs) en he
-        writer.lists.english.order writer.lists.hebrew.order =
+    writer.lists.english.order writer.lists.hebrew.order =
     subst (λ (y : Strand). Extends (events_in (entries_of b)) j.task.number y.number (Spawns which child one.number two.number xs) en he
     writer.lists.english.order writer.lists.hebrew.order) t.place.0 (c.spawn-strands.ensures.extends (events_in (entries_of b)) j.task.number which child xs) in
     let belong = subst (λ (y : Strand). Belongs (events_in (entries_of b)) j.task.number y (Spawns which child one.number two.number xs) one
@@ -1781,7 +1783,7 @@ invariant_of-self-2 g c =
     let two = c.spawn-strands.result.1 in
     let numbers : AreNext kid one.number two.number = subst (λ n. AreNext n one.number two.number) (sym c.next_strand-kid.ensures) c.spawn-strands.ensures.numbers in
     let extends : Extends (events_in (entries_of b)) j.task.number j.place.at.number (Spawns which child one.number two.number xs) en he
-        writer.lists.english.order writer.lists.hebrew.order =
+    writer.lists.english.order writer.lists.hebrew.order =
     subst (λ (y : Strand). Extends (events_in (entries_of b)) j.task.number y.number (Spawns which child one.number two.number xs) en he
     writer.lists.english.order writer.lists.hebrew.order) t.place.0 (c.spawn-strands.ensures.extends (events_in (entries_of b)) j.task.number which child xs) in
     let belong = subst (λ (y : Strand). Belongs (events_in (entries_of b)) j.task.number y (Spawns which child one.number two.number xs) one
@@ -1902,7 +1904,7 @@ returns g c =
     let two = c.spawn-strands.result.1 in
     let numbers : AreNext kid one.number two.number = subst (λ n. AreNext n one.number two.number) (sym c.next_strand-kid.ensures) c.spawn-strands.ensures.numbers in
     let extends : Extends (events_in (entries_of b)) j.task.number j.place.at.number (Spawns which child one.number two.number xs) en he
-        writer.lists.english.order writer.lists.hebrew.order =
+    writer.lists.english.order writer.lists.hebrew.order =
     subst (λ (y : Strand). Extends (events_in (entries_of b)) j.task.number y.number (Spawns which child one.number two.number xs) en he
     writer.lists.english.order writer.lists.hebrew.order) t.place.0 (c.spawn-strands.ensures.extends (events_in (entries_of b)) j.task.number which child xs) in
     let belong = subst (λ (y : Strand). Belongs (events_in (entries_of b)) j.task.number y (Spawns which child one.number two.number xs) one

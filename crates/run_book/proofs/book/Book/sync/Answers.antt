@@ -453,23 +453,21 @@ sit-requires g c =
     came_back c.self.inside.lines.len b.lines c.nobody_sits.new.lines (c.nobody_sits.ensures.same.1 ∙ c.as_mut_slice.ensures.value)
     (let size = c.self.inside.lines.ok.0 in omega (arith, size)) in
     record {
-      line =
-          (
-            l,
-            subst (λ (y : List LineNow). slice_get y c.number-task.result ≡ Some l) (sym kept) there0,
-            c.nobody_sits.ensures.nobody l (subst (λ (y : List LineNow). slice_get y c.number-task.result ≡ Some l) (sym c.as_mut_slice.ensures.value) there0),
-            some,
-          );
+      line = (
+        l,
+        subst (λ (y : List LineNow). slice_get y c.number-task.result ≡ Some l) (sym kept) there0,
+        c.nobody_sits.ensures.nobody l (subst (λ (y : List LineNow). slice_get y c.number-task.result ≡ Some l) (sym c.as_mut_slice.ensures.value) there0),
+        some,
+      );
       running =
           let many = c.running.ensures in let some = c.if-running-eq0.false in omega (arith, many, some);
-      job =
-          (
-            ap (λ (y : TaskNow). y.number) c.release-job.ensures.task.0 ∙ sym c.number-task.ensures,
-            c.release-job.ensures.task.1 ∙ t.task.1
-                ∙ pace_is_one code (entries_of b) j.task j.place.at j.place.table j.pace known.task
-                (barred_sync code j.task (past_in (entries_of b)) j.task.number barred stands),
-            subst (λ (y : TaskNow). Stands code y (λ P w. w ≡ ToSync)) (sym (c.release-job.ensures.task.0 ∙ t.task.0)) stands,
-          );
+      job = (
+        ap (λ (y : TaskNow). y.number) c.release-job.ensures.task.0 ∙ sym c.number-task.ensures,
+        c.release-job.ensures.task.1 ∙ t.task.1
+            ∙ pace_is_one code (entries_of b) j.task j.place.at j.place.table j.pace known.task
+            (barred_sync code j.task (past_in (entries_of b)) j.task.number barred stands),
+        subst (λ (y : TaskNow). Stands code y (λ P w. w ≡ ToSync)) (sym (c.release-job.ensures.task.0 ∙ t.task.0)) stands,
+      );
     }
 
 pub returns-then-running-gt0 : goal.returns-then-running-gt0
@@ -1050,7 +1048,7 @@ release-requires-2 g c =
     let writer = c.sync-held.new.placer.writer.now in
     let sound : IsSound (events_in later) = sync_sound clock orders code limits b j v k x l is known t.one there none stands next below above in
     let extends : Extends (events_in (entries_of b)) j.task.number j.place.at.number (Syncs x) b.writer.lists.english.order b.writer.lists.hebrew.order
-        writer.lists.english.order writer.lists.hebrew.order =
+    writer.lists.english.order writer.lists.hebrew.order =
     subst (λ (y : Strand). Extends (events_in (entries_of b)) j.task.number y.number (Syncs x) b.writer.lists.english.order b.writer.lists.hebrew.order
     writer.lists.english.order writer.lists.hebrew.order) t.place.0 (c.sync-held.ensures.extends (events_in (entries_of b)) j.task.number
     (subst (λ o. IsLastOf (past_in (entries_of b)) block o) (sym firsts) (first_ended code (entries_of b) b.lines block is.listed.sound (lines_of clock orders code limits b is) all))) in
@@ -1092,12 +1090,11 @@ release-requires-2 g c =
     record {
       run =
           (c.requires.run.0, c.requires.run.1);
-      home =
-          (
-            c.draw.ensures.clock ∙ t.clock ∙ is.home.0,
-            c.sync-held.new.placer.own ∙ ap (λ y. y.0) c.sync-held.ensures.put.home ∙ c.requires.run.1,
-            ap (λ (y : Reading). y.home) t.place.2 ∙ job.place.orders_is,
-          );
+      home = (
+        c.draw.ensures.clock ∙ t.clock ∙ is.home.0,
+        c.sync-held.new.placer.own ∙ ap (λ y. y.0) c.sync-held.ensures.put.home ∙ c.requires.run.1,
+        ap (λ (y : Reading). y.home) t.place.2 ∙ job.place.orders_is,
+      );
       carried =
           ready_carried code later new c.sync-held.result table c.go_on.new.pace u ready;
       orders =
@@ -1178,7 +1175,7 @@ invariant_of-self-2 g c =
     let writer = c.sync-held.new.placer.writer.now in
     let sound : IsSound (events_in later) = sync_sound clock orders code limits b j v k x l is known t.one there none stands next below above in
     let extends : Extends (events_in (entries_of b)) j.task.number j.place.at.number (Syncs x) b.writer.lists.english.order b.writer.lists.hebrew.order
-        writer.lists.english.order writer.lists.hebrew.order =
+    writer.lists.english.order writer.lists.hebrew.order =
     subst (λ (y : Strand). Extends (events_in (entries_of b)) j.task.number y.number (Syncs x) b.writer.lists.english.order b.writer.lists.hebrew.order
     writer.lists.english.order writer.lists.hebrew.order) t.place.0 (c.sync-held.ensures.extends (events_in (entries_of b)) j.task.number
     (subst (λ o. IsLastOf (past_in (entries_of b)) block o) (sym firsts) (first_ended code (entries_of b) b.lines block is.listed.sound (lines_of clock orders code limits b is) all))) in
