@@ -41,7 +41,7 @@ may_structural past t (Syncs _) may = refl
 may_structural past t (Gets _ _ _) may = refl
 may_structural past t (Ends _) may = refl
 
-sound_structural : (past : List Event) → IsSoundPast past → (e : Event) → Among e past → structural e.action ≡ true
+pub sound_structural : (past : List Event) → IsSoundPast past → (e : Event) → Among e past → structural e.action ≡ true
 sound_structural [] s e a = absurd a
 sound_structural (d ∷ past) s e (inl same) = ap (λ (z : Event). structural z.action) (sym same) ∙ may_structural past d.task d.action s.1.acts
 sound_structural (d ∷ past) s e (inr a) = sound_structural past s.0 e a
@@ -120,7 +120,7 @@ value_next place c e (Syncs _) is rest v h = h
 value_next place c e (Gets _ _ _) is rest v h = h
 value_next place c e (Ends _) is rest v h = h
 
-value_in : (place : ℕ → ℕ) (c : ℕ) (past : List Event) → value_left c (filter (in_shard place (place c)) past) ≡ value_left c past
+pub value_in : (place : ℕ → ℕ) (c : ℕ) (past : List Event) → value_left c (filter (in_shard place (place c)) past) ≡ value_left c past
 value_in place c [] = refl
 value_in place c (e ∷ past) = value_next place c e e.action refl (filter (in_shard place (place c)) past) (value_left c past) (value_in place c past)
 

@@ -89,11 +89,11 @@ module _ (past : List Event) (m : Machine) (x : Mirrors past m) where
       none_some None e h = true≢false (sym h)
       none_some (Some v) e h = cc
 
-  all_ended : (ts : List ℕ) → AllEnded past ts → AllHaveEnded m ts
+  pub all_ended : (ts : List ℕ) → AllEnded past ts → AllHaveEnded m ts
   all_ended [] h = tt
   all_ended (t ∷ ts) h = (ended t h.0, all_ended ts h.1)
 
-  valued_as : (t : ℕ) (v : Value) → value_of past t ≡ Some v → ended_with m t ≡ Some v
+  pub valued_as : (t : ℕ) (v : Value) → value_of past t ≡ Some v → ended_with m t ≡ Some v
   valued_as t v h = elim (cases_lt t (length m.tasks)) [
     | inl lt ↦ (
         let k = get_some m.tasks t lt in
@@ -128,7 +128,7 @@ no_value : (s : ℕ) (o : Option Value) → option_map (λ (v : Value). s) o ≡
 no_value s None h = refl
 no_value s (Some v) h = cc
 
-step_of : (P : tree.Program) (m : Machine) (e : Event) (r : Running) (at : TaskState) → slice_get m.tasks e.task ≡ Some r → r.value ≡ None
+pub step_of : (P : tree.Program) (m : Machine) (e : Event) (r : Running) (at : TaskState) → slice_get m.tasks e.task ≡ Some r → r.value ≡ None
     → r.strand ≡ e.strand → StandsAt r.state at → Answers (wish_of P at) e.action
     → Permits m r e.action → (n : Machine) × IsStep P m e n
 step_of P m e r at present running strand stands answers permits = (

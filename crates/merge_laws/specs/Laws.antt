@@ -1,6 +1,6 @@
 -- The merge laws. Lists of events called `past` have the newest event first.
 use Rattle.std.specs.Prelude.{◌≡◌, ◌≢◌, ◌↔◌, ℕ, ◌<◌, ◌==◌, IsSome, if◌then◌else◌, List, [], ◌∷◌, ◌++◌}
-use Rattle.std.specs.Prelude.{length, reverse, filter, option_map, option_to_list, slice_get, Some}
+use Rattle.std.specs.Prelude.{length, reverse, filter, option_map, option_to_list, slice_get, Some, None}
 use Rattle.fut_base.specs.declared.record.Value.{Value}
 use Rattle.fut_base.specs.declared.event.Event.{Event}
 use Rattle.fut_base.specs.Events.{structural, structure_of}
@@ -9,6 +9,7 @@ use Rattle.fut_base.specs.Sound.{IsSound, next_task, value_of}
 use Rattle.fut_syntax.specs.Trees as tree
 use Rattle.fut_check.specs.Items.{IsWellTyped}
 use Rattle.task_machine.specs.State.{TaskState, start_state, wish_of, effect_of, Answers}
+use Rattle.task_machine.specs.Texts.{cell_count}
 use Rattle.task_machine.specs.Runs.{StandsAt}
 use Rattle.task_machine.specs.Machine.{Machine, Running, opening, Leads, IsLegal, IsWhole, IsAllowed, create_count}
 use Rattle.run_laws.specs.Laws.{HasCells}
@@ -18,7 +19,7 @@ use Rattle.access_shards.specs.Kept.{Kind, IsKept, touch}
 use Rattle.access_shards.specs.Histories.{kind_of, touches_of, IsStanding}
 use Rattle.access_shards.specs.Laws.{AreOn, TellsRaces}
 use Rattle.event_clock.specs.Rule.{Rises}
-use Rattle.merge_laws.specs.Parts.{Drawn, events_in, ShareOut, IsMerge, StartsAs, IsTraced, IsSharedRun, MayGoOn, HasEndedOrWaits}
+use Rattle.merge_laws.specs.Parts.{Drawn, events_in, ShareOut, IsMerge, StartsAs, IsTraced, IsSharedRun, MayGoOn, HasEndedOrWaits, value_left}
 
 -- lists that share out the numbers below n have one merge, of length n
 abbrev pub MergeExists : Type 0
@@ -73,6 +74,23 @@ AllowedByBook =
     → IsSharedRun P n place book shards traces → IsMerge (book ∷ shards) h
     → (r : ℕ × List Drawn) → Among r traces → (x : IsTraced P book r.0 r.1) → (m : Machine) → Leads P (opening P) h m
     → (stop : TaskState) → StandsAt x.state stop → IsAllowed P m r.0 → MayGoOn (reverse (events_in book)) r.0 (wish_of P stop)
+
+-- where by the book a task has not ended, and need not wait for what it wishes, it may act after the merge
+abbrev pub BookAllows : Type 0
+BookAllows =
+    (P : tree.Program) (n : ℕ) (place : ℕ → ℕ) (book : List Drawn) (shards : List (List Drawn)) (traces : List (ℕ × List Drawn)) (h : List Event)
+    → IsWellTyped P → IsSharedRun P n place book shards traces → IsMerge (book ∷ shards) h
+    → (r : ℕ × List Drawn) → Among r traces → (x : IsTraced P book r.0 r.1) → (m : Machine) → Leads P (opening P) h m
+    → value_of (reverse (events_in book)) r.0 ≡ None
+    → (stop : TaskState) → StandsAt x.state stop → MayGoOn (reverse (events_in book)) r.0 (wish_of P stop) → IsAllowed P m r.0
+
+-- after the merge a cell has the value that the accesses in its list left
+abbrev pub CellsAreLeft : Type 0
+CellsAreLeft =
+    (P : tree.Program) (n : ℕ) (place : ℕ → ℕ) (book : List Drawn) (shards : List (List Drawn)) (traces : List (ℕ × List Drawn)) (h : List Event)
+    → IsSharedRun P n place book shards traces → IsMerge (book ∷ shards) h → (m : Machine) → Leads P (opening P) h m
+    → (c : ℕ) (own : List Drawn) → c < cell_count P → slice_get shards (place c) ≡ Some own
+    → slice_get m.cells c ≡ Some (value_left c (reverse (events_in own)))
 
 -- where by the book each task has ended or has to wait, none waits: the merge is whole
 abbrev pub NoneWaits : Type 0
