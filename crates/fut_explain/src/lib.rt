@@ -1,0 +1,7 @@
+//! What a fault is, in words and lines.
+#![tactic(auto)]
+
+pub mod kind;
+pub mod standing;
+#[cfg(test)]
+mod standing_tests;
