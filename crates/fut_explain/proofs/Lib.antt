@@ -1,3 +1,4 @@
 pub mod Cutting
 pub mod Trying
 pub mod Kinding
+pub mod Placing

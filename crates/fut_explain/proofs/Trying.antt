@@ -1,7 +1,7 @@
 -- Whether a token can come behind others, by what the parser answers where it does.
 use Rattle.std.proofs.Common.{◌≡◌, ℕ, Bool, cond, ◌-◌, drop, get_or, Vec, Global, true, false, ◌+◌, ◌<◌, ◌≤◌, ◌⊎◌, inl, inr, List, [], ◌∷◌, ◌++◌, refl, sym, ap, subst, ◌∙◌, append_assoc, length, length-append, take, nat_lt, arith}
 use Rattle.std.specs.Prelude.{Option, Some, None, Result, Ok, Err, IfOk}
-use Rattle.std.proofs.lemmas.List.{append-nil}
+use Rattle.std.proofs.lemmas.List.{append-nil, drop_more}
 use Rattle.std.proofs.lemmas.Bool.{ltb-true, ltb-false}
 use Rattle.fut_tokens.specs.declared.token.Token.{Token}
 use Rattle.fut_tokens.specs.declared.token.Position.{Position}
@@ -10,7 +10,6 @@ use Rattle.fut_tokens.proofs.Cuts.{tokens_once}
 use Rattle.fut_syntax.proofs.Whole.{no_fault, fault_once}
 use Rattle.fut_syntax.specs.Trees.{Program}
 use Rattle.fut_syntax.specs.Faults.{Begins, IsBegun, IsBad, IsGood, IsFault, IsWhole, is_full, open_after}
-use Rattle.fut_rules.proofs.Drops.{dropped}
 use Rattle.fut_explain.specs.declared.kind.Kind.{Kind}
 use Rattle.fut_explain.specs.Kinds.{kind_token, behind_kind}
 use Rattle.fut_explain.specs.Standing.{IsBehind, Tells, TellsAll, AreGood, AreStanding, IsTried}
@@ -105,11 +104,12 @@ pub sought_next : (before : List Token) (all rest found : List Kind) (k : Kind) 
 sought_next before all rest found k true h good = sought_good before all rest found k h good
 sought_next before all rest found k false h bad = subst (λ l. IsSought before all rest l) (sym (append-nil found)) (sought_bad before all rest found k h bad)
 
-pub sought_step : (before : List Token) (all found next : List Kind) (i : ℕ) (k : Kind) (b : Bool) → i < length all → k ≡ get_or all i k
-    → next ≡ found ++ cond b (k ∷ []) [] → IsSought before all (drop i all) found → Tells before k b → IsSought before all (drop (i + 1) all) next
-sought_step before all found next i k b less is new h told =
+pub sought_step : (before : List Token) (all found next : List Kind) (i : ℕ) (d : Kind) (b : Bool) → i < length all
+    → next ≡ found ++ cond b (get_or all i d ∷ []) [] → IsSought before all (drop i all) found → Tells before (get_or all i d) b
+    → IsSought before all (drop (i + 1) all) next
+sought_step before all found next i d b less new h told =
     subst (λ l. IsSought before all (drop (i + 1) all) l) (sym new)
-    (sought_next before all (drop (i + 1) all) found k b (subst (λ l. IsSought before all l found) (dropped all i k less is) h) told)
+    (sought_next before all (drop (i + 1) all) found (get_or all i d) b (subst (λ l. IsSought before all l found) (drop_more all i d less) h) told)
 
 pub sought_all : (before : List Token) (all found : List Kind) → IsSought before all [] found → AreStanding before all found
 sought_all before all found h = subst (λ l. AreStanding before all l) (append-nil found) (h.goes [] refl)

@@ -2,6 +2,8 @@
 #![tactic(auto)]
 
 pub mod kind;
+pub mod lines;
+pub mod mark;
 pub mod standing;
 #[cfg(test)]
 mod standing_tests;

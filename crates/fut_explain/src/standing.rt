@@ -81,13 +81,13 @@ fn add_if(found: &mut Vec<Kind>, stands: bool, kind: Kind) -> Result<(), NoMemor
     Ok(())
 }
 
-/// The kinds of which a token can come behind the first tokens of a text, so many, behind which its fault stands.
-fn standing(alloc: Global, text: &[u8], at: usize) -> Result<Vec<Kind>, NoMemory>
+/// Those of some kinds of which a token can come behind the first tokens of a text, so many, behind which its fault stands.
+fn standing(alloc: Global, text: &[u8], at: usize, all: &[Kind]) -> Result<Vec<Kind>, NoMemory>
     requires { length text.now + 1 < 2 ^ 32 }
-    ensures { IfOk result (λ found. (before : List Token) → IsBehind text.now at before → AreStanding before all_kinds found.items) }
+    ensures { IfOk result (λ found. (before : List Token) → IsBehind text.now at before → AreStanding before all.now found.items) }
 {
     let mut found = Vec::new(alloc);
-    for kind in kinds() {
+    for kind in all {
         let stands = can_stand(alloc, text, at, *kind)?;
         add_if(&mut found, stands, *kind)?;
     }
@@ -103,7 +103,7 @@ pub fn expected(alloc: Global, text: &[u8]) -> Result<Vec<Kind>, NoMemory>
     let count = all.len();
     match parse_tokens(alloc, all) {
         Ok(_) => Ok(Vec::new(alloc)),
-        Err(TokenFault::Syntax { left }) => standing(alloc, text, count - 1 - left),
+        Err(TokenFault::Syntax { left }) => standing(alloc, text, count - 1 - left, kinds()),
         Err(TokenFault::NoMemory) => Err(NoMemory),
     }
 }
