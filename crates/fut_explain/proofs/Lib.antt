@@ -2,3 +2,5 @@ pub mod Cutting
 pub mod Trying
 pub mod Kinding
 pub mod Placing
+pub mod Finding
+pub mod Ends

@@ -41,7 +41,7 @@ goes_first text place h = (
   ap (λ l. place_after (take (length h.before) l)) h.whole ∙ (ap place_after (take-append_seam h.before h.after) ∙ h.stands),
 )
 
-apart : (m n : ℕ) → m ≤ n → (m ≡ n) ⊎ (m + 1 ≤ n)
+pub apart : (m n : ℕ) → m ≤ n → (m ≡ n) ⊎ (m + 1 ≤ n)
 apart zero zero h = inl refl
 apart zero (suc n) h = inr (omega arith)
 apart (suc m) zero h = absurd (omega (arith, h))

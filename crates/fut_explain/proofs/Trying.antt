@@ -11,7 +11,7 @@ use Rattle.fut_syntax.proofs.Whole.{no_fault, fault_once}
 use Rattle.fut_syntax.specs.Trees.{Program}
 use Rattle.fut_syntax.specs.Faults.{Begins, IsBegun, IsBad, IsGood, IsFault, IsWhole, is_full, open_after}
 use Rattle.fut_explain.specs.declared.kind.Kind.{Kind}
-use Rattle.fut_explain.specs.Kinds.{kind_token, behind_kind}
+use Rattle.fut_explain.specs.Kinds.{all_kinds, kind_token, behind_kind}
 use Rattle.fut_explain.specs.Standing.{IsBehind, Tells, TellsAll, AreGood, AreStanding, IsTried}
 use Rattle.fut_explain.proofs.Cutting.{Cut, Later, Same, Earlier, cuts, take_front}
 use Rattle.fut_explain.proofs.Kinding.{behind_simple}
@@ -136,3 +136,18 @@ place_is text before tokens places left n cut fault count h =
       are = h.are;
       count = omega (arith, once, size, count, h.fault.left_is, ap length h.are);
     }
+
+-- whatever the fault of a text stands behind, these are the kinds that can stand there
+abbrev pub AreExpected : List ℕ → Vec Kind Global → Type 0
+AreExpected text found = (before : List Token) → IsBehind text (length before) before → AreStanding before all_kinds found.items
+
+pub expected_whole : (text : List ℕ) (tokens : List Token) (places : List Position) (p : Program) (found : Vec Kind Global) → IsTokensOf text tokens places
+    → IsWhole tokens p → AreExpected text found
+expected_whole text tokens places p found cut whole before h = absurd (whole_none text (length before) before tokens places p cut whole h)
+
+pub expected_fault : {E : Type 0} (text : List ℕ) (tokens : List Token) (places : List Position) (left n : ℕ) (all : List Kind) (r : Result (Vec Kind Global) E)
+    → IsTokensOf text tokens places → IsFault tokens left → n ≡ length tokens → all ≡ all_kinds
+    → IfOk r (λ found. (before : List Token) → IsBehind text (n - 1 - left) before → AreStanding before all found.items) → IfOk r (AreExpected text)
+expected_fault text tokens places left n all (Ok found) cut fault count is h =
+    λ before b. subst (λ l. AreStanding before l found.items) is (h before (place_is text before tokens places left n cut fault count b))
+expected_fault text tokens places left n all (Err e) cut fault count is h = tt

@@ -1,6 +1,6 @@
 -- Lines of a text, and the mark under a token.
-use Rattle.std.specs.Prelude.{◌≡◌, ℕ, ◌&&◌, Bool, true, nat_eq, nat_le, nat_lt, List, [], ◌∷◌, ◌++◌, length, replicate, slice_get, Some, if◌then◌else◌}
-use Rattle.std.specs.List.{flat_map, suffix_len}
+use Rattle.std.specs.Prelude.{◌≡◌, ℕ, true, nat_eq, max, List, [], ◌∷◌, ◌++◌, length, replicate, slice_get, Some, if◌then◌else◌}
+use Rattle.std.specs.List.{suffix_len}
 use Rattle.fut_tokens.specs.declared.token.Token.{Token}
 use Rattle.fut_tokens.specs.declared.token.Position.{Position}
 use Rattle.fut_tokens.specs.Cut.{each, is_inline, EndsLine}
@@ -52,7 +52,7 @@ pub record IsLineOf (text : List ℕ) (place : Position) (line : Line) : Type 0 
 
 -- how many bytes a token takes as it is written, but of the end token and of a scrap it is 1
 abbrev pub width_of : Token → ℕ
-width_of x = if nat_eq (length (spelling x)) 0 then 1 else length (spelling x)
+width_of x = max (length (spelling x)) 1
 
 -- the line of a text on which a token stands, and the token's width
 pub record IsMarked (text : List ℕ) (place : Position) (m : Marked) : Type 0 where
@@ -61,15 +61,12 @@ pub record IsMarked (text : List ℕ) (place : Position) (m : Marked) : Type 0 w
   pub here : IsTokenAt text place token
   pub width : m.width ≡ width_of token
 
--- a byte that goes on with a character
-abbrev pub goes_on : ℕ → Bool
-goes_on b = nat_le 128 b && nat_lt b 192
-
--- a blank under the character that begins with a byte; under a tab it is one
-abbrev pub blank_under : ℕ → List ℕ
-blank_under b = if goes_on b then [] else ((if nat_eq b 9 then 9 else 32) ∷ [])
+-- a blank under each of some bytes; under a tab it is one
+abbrev pub blanks : List ℕ → List ℕ
+blanks [] = []
+blanks (b ∷ bs) = (if nat_eq b 9 then 9 else 32) ∷ blanks bs
 
 -- a line, and under it the mark
 abbrev pub marked_text : Marked → List ℕ
 marked_text m =
-    m.line.front.now ++ (m.line.rest.now ++ (10 ∷ flat_map blank_under m.line.front.now ++ (replicate m.width 94 ++ (10 ∷ []))))
+    m.line.front.now ++ (m.line.rest.now ++ (10 ∷ blanks m.line.front.now ++ (replicate m.width 94 ++ (10 ∷ []))))

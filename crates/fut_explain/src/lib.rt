@@ -1,6 +1,9 @@
 //! What a fault is, in words and lines.
 #![tactic(auto)]
 
+pub mod explained;
+#[cfg(test)]
+mod explained_tests;
 pub mod kind;
 pub mod lines;
 pub mod mark;

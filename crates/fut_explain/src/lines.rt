@@ -14,7 +14,7 @@ pub struct Line<'a> {
 }
 
 /// Whether two places are the same.
-fn same_place(a: Position, b: Position) -> bool
+pub fn same_place(a: Position, b: Position) -> bool
     ensures { IsTrue result ↔ (a ≡ b) }
 {
     a.line == b.line && a.column == b.column

@@ -1,10 +1,9 @@
 //! The mark under a token.
 ghost use Rattle.std.specs.Prelude.{◌≡◌, ℕ, ◌+◌, ◌^◌, ◌<◌, ◌++◌, length, replicate, slice_get, Some, IfOk, OnOk};
-ghost use Rattle.std.specs.List.{flat_map};
 ghost use Rattle.fut_tokens.specs.declared.token.Token.{Token};
-ghost use Rattle.fut_explain.specs.Lines.{IsTokenAt, IsMarked, width_of, blank_under, marked_text};
+ghost use Rattle.fut_explain.specs.Lines.{IsTokenAt, IsMarked, width_of, blanks, marked_text};
 
-use crate::lines::{Line, line_of};
+use crate::lines::{Line, line_of, same_place};
 use fut_base::list::NoMemory;
 use fut_tokens::spelling::push_token;
 use fut_tokens::token::{Position, Token};
@@ -24,11 +23,7 @@ fn token_width(alloc: Global, token: &Token) -> Result<usize, NoMemory>
 {
     let mut written = Vec::new(alloc);
     push_token(alloc, &mut written, token)?;
-    let width = written.len();
-    if width == 0 {
-        return Ok(1);
-    }
-    Ok(width)
+    Ok(written.len().max(1))
 }
 
 /// The number of a place among some.
@@ -37,7 +32,7 @@ fn index_of(places: &[Position], place: Position) -> usize
     ensures { slice_get places.now result ≡ Some place }
 {
     let mut at = 0;
-    while at < places.len() && places[at] != place {
+    while at < places.len() && !same_place(places[at], place) {
         at += 1;
     }
     at
@@ -55,7 +50,7 @@ fn width_at(alloc: Global, text: &[u8], place: Position) -> Result<usize, NoMemo
 }
 
 /// The line of a text on which a token stands, and its width.
-pub fn marked<'a>(alloc: Global, text: &'a [u8], place: Position) -> Result<Marked<'a>, NoMemory>
+pub fn mark_under<'a>(alloc: Global, text: &'a [u8], place: Position) -> Result<Marked<'a>, NoMemory>
     requires short { length text.now + 1 < 2 ^ 32 }
     requires here { (x : Token) × IsTokenAt text.now place x }
     ensures { IfOk result (λ m. IsMarked text.now place m) }
@@ -67,27 +62,12 @@ pub fn marked<'a>(alloc: Global, text: &'a [u8], place: Position) -> Result<Mark
     })
 }
 
-/// Adds a blank under the character that begins with a byte; under a tab it is one.
-fn push_blank(out: &mut Vec<u8>, b: u8) -> Result<(), NoMemory>
-    ensures { OnOk result (out.new.items ≡ out.old.items ++ blank_under b) }
-{
-    if b >= 128 && b < 192 {
-        return Ok(());
-    }
-    if b == b'\t' {
-        out.push(b'\t')?;
-    } else {
-        out.push(b' ')?;
-    }
-    Ok(())
-}
-
-/// Adds blanks under what stands before the mark.
+/// Adds a blank under each byte; under a tab it is one.
 fn push_blanks(out: &mut Vec<u8>, front: &[u8]) -> Result<(), NoMemory>
-    ensures { OnOk result (out.new.items ≡ out.old.items ++ flat_map blank_under front.now) }
+    ensures { OnOk result (out.new.items ≡ out.old.items ++ blanks front.now) }
 {
     for b in front {
-        push_blank(out, *b)?;
+        out.push(if *b == b'\t' { b'\t' } else { b' ' })?;
     }
     Ok(())
 }
@@ -96,8 +76,10 @@ fn push_blanks(out: &mut Vec<u8>, front: &[u8]) -> Result<(), NoMemory>
 fn push_carets(out: &mut Vec<u8>, width: usize) -> Result<(), NoMemory>
     ensures { OnOk result (out.new.items ≡ out.old.items ++ replicate width 94) }
 {
-    for _ in 0..width {
+    let mut n = 0;
+    while n < width {
         out.push(b'^')?;
+        n += 1;
     }
     Ok(())
 }
