@@ -1,7 +1,7 @@
 -- The token that stands at a place.
 use Rattle.std.proofs.Common.{◌≡◌, ℕ, zero, suc, ◌+◌, ◌<◌, ◌≤◌, inl, inr, List, [], ◌∷◌, ◌++◌, refl, sym, ap, ◌∙◌, length, get_or, arith}
-use Rattle.std.specs.Prelude.{Some, Ok, slice_get}
-use Rattle.std.proofs.lemmas.Option.{slice_get_within, get_or_from_slice_get, slice_get-get_or}
+use Rattle.std.specs.Prelude.{Some, Result, Ok, Err, IfOk, slice_get}
+use Rattle.std.proofs.lemmas.Option.{slice_get_within, get_or_from_slice_get, slice_get-get_or, slice_get_read}
 use Rattle.fut_tokens.specs.declared.token.Token.{Token}
 use Rattle.fut_tokens.specs.declared.token.Position.{Position}
 use Rattle.fut_tokens.specs.Cut.{Piece, Space, Comment, Lexeme}
@@ -10,7 +10,7 @@ use Rattle.fut_tokens.proofs.Cuts.{tokens_once}
 use Rattle.fut_syntax.specs.declared.tree.Program as declared
 use Rattle.fut_syntax.specs.Texts.{IsFaultPlace, Parses}
 use Rattle.fut_check.specs.Checks.{IsFaultOf}
-use Rattle.fut_explain.specs.Lines.{IsTokenAt}
+use Rattle.fut_explain.specs.Lines.{IsTokenAt, width_of}
 use Rattle.fut_explain.proofs.Placing.{apart}
 
 -- the place is among some, not before the one with this number
@@ -35,10 +35,24 @@ pub has_place : (text : List ℕ) (place : Position) (tokens : List Token) (plac
 has_place text place tokens places cut (x, h) =
     (h.at, ap (λ l. slice_get l h.at) ((tokens_once text tokens h.tokens places h.places cut h.cut).1) ∙ h.stands)
 
-pub token_there : (text : List ℕ) (place : Position) (tokens : List Token) (places : List Position) (at : ℕ) (d : Token) → IsTokensOf text tokens places
-    → slice_get places at ≡ Some place → at < length tokens → IsTokenAt text place (get_or tokens at d)
-token_there text place tokens places at d cut stands less =
-    record { tokens = tokens; places = places; at = at; cut = cut; stands = stands; is = slice_get-get_or tokens at d less }
+-- the width of the token that stands at a place is that of a token that does
+pub width_there : {E : Type 0} (text : List ℕ) (place : Position) (tokens : List Token) (places : List Position) (at : ℕ) (x : Token) (r : Result ℕ E)
+    → IsTokensOf text tokens places → slice_get places at ≡ Some place → length places ≡ length tokens → x ≡ get_or tokens at x
+    → IfOk r (λ n. n ≡ width_of x) → IfOk r (λ n. (x : Token) × IsTokenAt text place x × (n ≡ width_of x))
+width_there text place tokens places at x (Ok n) cut stands paired is h =
+    let less = slice_get_within places at place stands in (
+      x,
+      record {
+        tokens = tokens;
+        places = places;
+        at = at;
+        cut = cut;
+        stands = stands;
+        is = slice_get_read tokens (length tokens) at x refl (omega (arith, less, paired)) is;
+      },
+      h,
+    )
+width_there text place tokens places at x (Err e) cut stands paired is h = tt
 
 -- each place is that of a token
 has_token : (ps : List Piece) (before : List ℕ) (i : ℕ) (p : Position) → slice_get (places_of before ps) i ≡ Some p

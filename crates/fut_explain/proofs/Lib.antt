@@ -4,3 +4,4 @@ pub mod Kinding
 pub mod Placing
 pub mod Finding
 pub mod Ends
+pub mod Telling

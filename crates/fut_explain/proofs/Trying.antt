@@ -141,9 +141,10 @@ place_is text before tokens places left n cut fault count h =
 abbrev pub AreExpected : List ℕ → Vec Kind Global → Type 0
 AreExpected text found = (before : List Token) → IsBehind text (length before) before → AreStanding before all_kinds found.items
 
-pub expected_whole : (text : List ℕ) (tokens : List Token) (places : List Position) (p : Program) (found : Vec Kind Global) → IsTokensOf text tokens places
-    → IsWhole tokens p → AreExpected text found
-expected_whole text tokens places p found cut whole before h = absurd (whole_none text (length before) before tokens places p cut whole h)
+pub expected_whole : {E : Type 0} (text : List ℕ) (tokens : List Token) (places : List Position) (p : Program) (r : Result (Vec Kind Global) E)
+    → IsTokensOf text tokens places → IsWhole tokens p → IfOk r (AreExpected text)
+expected_whole text tokens places p (Ok found) cut whole = λ before h. absurd (whole_none text (length before) before tokens places p cut whole h)
+expected_whole text tokens places p (Err e) cut whole = tt
 
 pub expected_fault : {E : Type 0} (text : List ℕ) (tokens : List Token) (places : List Position) (left n : ℕ) (all : List Kind) (r : Result (Vec Kind Global) E)
     → IsTokensOf text tokens places → IsFault tokens left → n ≡ length tokens → all ≡ all_kinds

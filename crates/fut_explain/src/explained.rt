@@ -69,7 +69,7 @@ fn push_kinds(out: &mut Vec<u8>, kinds: &[Kind]) -> Result<(), NoMemory>
 
 /// What is told of a text that is no program.
 fn syntax_told(alloc: Global, place: Position, mark: Marked<'_>, found: &[Kind]) -> Result<Vec<u8>, NoMemory>
-    ensures { IfOk result (λ out. out.items ≡ syntax_text place mark found.now) }
+    ensures { IfOk result (λ out. out.items ≡ syntax_text place mark.entry found.now) }
 {
     let mut out = Vec::new(alloc);
     push_place(alloc, &mut out, place)?;
@@ -82,7 +82,7 @@ fn syntax_told(alloc: Global, place: Position, mark: Marked<'_>, found: &[Kind])
 
 /// What is told of a program that breaks a type rule.
 fn type_told(alloc: Global, place: Position, rule: u32, mark: Marked<'_>) -> Result<Vec<u8>, NoMemory>
-    ensures { IfOk result (λ out. out.items ≡ type_text place rule mark) }
+    ensures { IfOk result (λ out. out.items ≡ type_text place rule mark.entry) }
 {
     let mut out = Vec::new(alloc);
     push_place(alloc, &mut out, place)?;

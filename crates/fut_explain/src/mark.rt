@@ -87,7 +87,7 @@ fn push_carets(out: &mut Vec<u8>, width: usize) -> Result<(), NoMemory>
 impl<'a> Marked<'a> {
     /// Adds the line, and under it the mark.
     pub fn push(self, out: &mut Vec<u8>) -> Result<(), NoMemory>
-        ensures { OnOk result (out.new.items ≡ out.old.items ++ marked_text self) }
+        ensures { OnOk result (out.new.items ≡ out.old.items ++ marked_text self.entry) }
     {
         out.extend_from_slice(self.line.front)?;
         out.extend_from_slice(self.line.rest)?;

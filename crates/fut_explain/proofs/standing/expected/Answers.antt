@@ -11,8 +11,7 @@ returns c =
     let places = c.in_ok-all.field-0.places.items in
     let cut = c.in_ok-all.ensures.tokens in
     elim c.match-parse_tokens.branch [
-      | in-Ok w ↦ subst (λ r. IfOk r (AreExpected text)) (sym w.result-is)
-          (expected_whole text tokens places w.in-Ok.ensures.0 _ cut w.in-Ok.ensures.2)
+      | in-Ok w ↦ expected_whole text tokens places w.in-Ok.ensures.0 c.match-parse_tokens.result cut w.in-Ok.ensures.2
       | in-Err-Syntax w ↦ subst (λ r. IfOk r (AreExpected text)) (sym w.result-is)
           (expected_fault text tokens places w.in-Err-Syntax.left c.len-count.result w.kinds.result.now w.standing.result cut
           (rw w.in-Err-Syntax.field-0-is at w.in-Err-Syntax.ensures) c.len-count.ensures w.kinds.ensures w.standing.ensures)
