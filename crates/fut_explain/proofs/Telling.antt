@@ -1,5 +1,5 @@
 -- What is told of a text is what the definition says.
-use Rattle.std.proofs.Common.{◌≡◌, ℕ, List, length, sym, subst, ◌∙◌, ap, Vec, Global}
+use Rattle.std.proofs.Common.{◌≡◌, ℕ, List, [], ◌++◌, ◌∙◌, ap, append_assoc, Vec, Global}
 use Rattle.std.specs.Prelude.{Result, Ok, Err, IfOk}
 use Rattle.fut_tokens.specs.declared.token.Position.{Position}
 use Rattle.fut_syntax.specs.declared.tree.Program as declared
@@ -42,3 +42,10 @@ tells_type text program place rule mark (Err e) parsed fault marked h = tt
 
 pub tells_clean : (text out : List ℕ) (program : declared.Program) → Parses text (Ok program) → IsChecked program → out ≡ clean_text → Explains text out
 tells_clean text out program parsed checked is = WellTyped (record { program = program; parsed = parsed; checked = checked; is = is })
+
+-- five parts were added one after the other
+pub five_parts : (o p q r s t a b c d e : List ℕ) → o ≡ [] → p ≡ o ++ a → q ≡ p ++ b → r ≡ q ++ c → s ≡ r ++ d → t ≡ s ++ e
+    → t ≡ a ++ (b ++ (c ++ (d ++ e)))
+five_parts o p q r s t a b c d e none one two three four five =
+    five ∙ (ap (λ l. l ++ e) (four ∙ ap (λ l. l ++ d) (three ∙ ap (λ l. l ++ c) (two ∙ ap (λ l. l ++ b) (one ∙ ap (λ l. l ++ a) none))))
+    ∙ (append_assoc ((a ++ b) ++ c) d e ∙ (append_assoc (a ++ b) c (d ++ e) ∙ append_assoc a b (c ++ (d ++ e)))))

@@ -2,8 +2,8 @@ use Rattle.fut_explain.proofs.Finding.{token_at_fault}
 use Rattle.fut_explain.proofs.Telling.{tells_syntax}
 use Rattle.fut_explain.proofs.explained.explain_syntax.Goals as goal
 
-pub mark_under-mark-requires-clause-here : goal.mark_under-mark-requires-clause-here
-mark_under-mark-requires-clause-here c = token_at_fault c.args.text.now c.args.place c.requires.fault
+pub mark_under-requires-clause-here : goal.mark_under-requires-clause-here
+mark_under-requires-clause-here c = token_at_fault c.args.text.now c.args.place c.requires.fault
 
 pub returns : goal.returns
 returns c =

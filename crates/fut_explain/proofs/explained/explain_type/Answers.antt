@@ -2,8 +2,8 @@ use Rattle.fut_explain.proofs.Finding.{token_at_broken}
 use Rattle.fut_explain.proofs.Telling.{tells_type}
 use Rattle.fut_explain.proofs.explained.explain_type.Goals as goal
 
-pub mark_under-mark-requires-clause-here : goal.mark_under-mark-requires-clause-here
-mark_under-mark-requires-clause-here c =
+pub mark_under-requires-clause-here : goal.mark_under-requires-clause-here
+mark_under-requires-clause-here c =
     token_at_broken c.args.text.now c.args.program.now c.args.rule c.args.place c.requires.parsed c.requires.fault
 
 pub returns : goal.returns
