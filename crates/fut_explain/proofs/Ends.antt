@@ -1,5 +1,5 @@
 -- The ends of a line.
-use Rattle.std.proofs.Common.{◌≡◌, ℕ, ◌+◌, ◌-◌, ◌<◌, ◌≤◌, true, false, List, [], ◌∷◌, ◌++◌, refl, sym, ap, subst, ◌∙◌, length, take, drop, get_or, arith}
+use Rattle.std.proofs.Common.{◌≡◌, ℕ, ◌-◌, ◌<◌, ◌≤◌, true, List, refl, sym, ap, subst, length, take, drop, get_or, arith}
 use Rattle.std.specs.List.{suffix_len}
 use Rattle.std.proofs.lemmas.List.{take-append-drop, take_all, drop_all, drop_more, length-drop}
 use Rattle.std.proofs.lemmas.List.Sums.{suffix_len-take_no}

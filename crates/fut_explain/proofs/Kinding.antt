@@ -1,5 +1,5 @@
 -- The tokens of kinds.
-use Rattle.std.proofs.Common.{◌≡◌, ◌∷◌, List, refl, true}
+use Rattle.std.proofs.Common.{◌≡◌, ◌∷◌, refl, true}
 use Rattle.fut_tokens.specs.Ended.{IsEnded}
 use Rattle.fut_syntax.specs.Faults.{all_simple}
 use Rattle.fut_explain.specs.declared.kind.Kind.{Kind}

@@ -1,11 +1,11 @@
 -- The places of a text, and the way to one of them.
-use Rattle.std.proofs.Common.{◌≡◌, ℕ, zero, suc, ◌+◌, ◌<◌, ◌≤◌, ◌⊎◌, inl, inr, List, [], ◌∷◌, ◌++◌, refl, sym, ap, ◌∙◌, append_assoc, length, length-append, take, drop, arith}
+use Rattle.std.proofs.Common.{◌≡◌, ℕ, zero, suc, ◌+◌, ◌≤◌, ◌⊎◌, inl, inr, List, [], ◌∷◌, ◌++◌, refl, sym, ap, ◌∙◌, append_assoc, length, length-append, take, arith}
 use Rattle.std.specs.Prelude.{Some, slice_get}
 use Rattle.std.proofs.Math.Seq.{take-append_seam}
 use Rattle.fut_tokens.specs.declared.token.Token.{Token}
 use Rattle.fut_tokens.specs.declared.token.Position.{Position}
 use Rattle.fut_tokens.specs.Cut.{Piece, Space, Comment, Lexeme, IsCut}
-use Rattle.fut_tokens.specs.Lexed.{places_of, place_after, IsTokensOf}
+use Rattle.fut_tokens.specs.Lexed.{places_of, place_after}
 use Rattle.fut_explain.specs.Lines.{IsPlaceOf, IsTokenAt}
 
 abbrev Split : List ℕ → Position → Type 0

@@ -1,5 +1,5 @@
 -- Whether a token can come behind others, by what the parser answers where it does.
-use Rattle.std.proofs.Common.{◌≡◌, ℕ, Bool, cond, ◌-◌, drop, get_or, Vec, Global, true, false, ◌+◌, ◌<◌, ◌≤◌, ◌⊎◌, inl, inr, List, [], ◌∷◌, ◌++◌, refl, sym, ap, subst, ◌∙◌, append_assoc, length, length-append, take, nat_lt, arith}
+use Rattle.std.proofs.Common.{◌≡◌, ℕ, Bool, cond, ◌-◌, drop, get_or, Vec, Global, true, false, ◌+◌, ◌<◌, inl, inr, List, [], ◌∷◌, ◌++◌, refl, sym, ap, subst, ◌∙◌, append_assoc, length, length-append, take, nat_lt, arith}
 use Rattle.std.specs.Prelude.{Option, Some, None, Result, Ok, Err, IfOk}
 use Rattle.std.proofs.lemmas.List.{append-nil, drop_more}
 use Rattle.std.proofs.lemmas.Bool.{ltb-true, ltb-false}
@@ -9,7 +9,7 @@ use Rattle.fut_tokens.specs.Lexed.{IsTokensOf}
 use Rattle.fut_tokens.proofs.Cuts.{tokens_once}
 use Rattle.fut_syntax.proofs.Whole.{no_fault, fault_once}
 use Rattle.fut_syntax.specs.Trees.{Program}
-use Rattle.fut_syntax.specs.Faults.{Begins, IsBegun, IsBad, IsGood, IsFault, IsWhole, is_full, open_after}
+use Rattle.fut_syntax.specs.Faults.{IsBad, IsGood, IsFault, IsWhole}
 use Rattle.fut_explain.specs.declared.kind.Kind.{Kind}
 use Rattle.fut_explain.specs.Kinds.{all_kinds, kind_token, behind_kind}
 use Rattle.fut_explain.specs.Standing.{IsBehind, Tells, TellsAll, AreGood, AreStanding, IsTried}

@@ -1,4 +1,4 @@
-use Rattle.std.proofs.Common.{sym, ap, subst, length, nat_lt}
+use Rattle.std.proofs.Common.{sym, ap, subst, nat_lt}
 use Rattle.std.specs.Prelude.{IfOk}
 use Rattle.fut_explain.specs.Standing.{TellsAll}
 use Rattle.fut_explain.proofs.Trying.{whole_tells, stop_tells}
