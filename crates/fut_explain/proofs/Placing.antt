@@ -1,5 +1,6 @@
 -- The places of a text, and the way to one of them.
-use Rattle.std.proofs.Common.{◌≡◌, ℕ, zero, suc, ◌+◌, ◌≤◌, ◌⊎◌, inl, inr, List, [], ◌∷◌, ◌++◌, refl, sym, ap, ◌∙◌, append_assoc, length, length-append, take, arith}
+use Rattle.std.proofs.Common.{◌≡◌, ℕ, zero, suc, ◌+◌, ◌≤◌, ◌⊎◌, inl, inr}
+use Rattle.std.proofs.Common.{List, [], ◌∷◌, ◌++◌, refl, sym, ap, ◌∙◌, append_assoc, length, length-append, take, arith}
 use Rattle.std.specs.Prelude.{Some, slice_get}
 use Rattle.std.proofs.Math.Seq.{take-append_seam}
 use Rattle.fut_tokens.specs.declared.token.Token.{Token}
@@ -50,7 +51,8 @@ apart (suc m) (suc n) h = elim (apart m n (omega (arith, h))) [
   | inr l ↦ inr (omega (arith, l))
 ]
 
-pub goes_next : (text : List ℕ) (place here : Position) (at : ℕ) → here ≡ place_after (take at text) → (here ≡ place → ⊥) → Goes text place at → Goes text place (at + 1)
+pub goes_next : (text : List ℕ) (place here : Position) (at : ℕ) → here ≡ place_after (take at text)
+    → (here ≡ place → ⊥) → Goes text place at → Goes text place (at + 1)
 goes_next text place here at is other (n, le, within, stands) = elim (apart at n le) [
   | inl e ↦ absurd (other (is ∙ (ap (λ k. place_after (take k text)) e ∙ stands)))
   | inr l ↦ (n, l, within, stands)

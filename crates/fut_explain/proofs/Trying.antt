@@ -1,5 +1,6 @@
 -- Whether a token can come behind others, by what the parser answers where it does.
-use Rattle.std.proofs.Common.{◌≡◌, ℕ, Bool, cond, ◌-◌, drop, get_or, Vec, Global, true, false, ◌+◌, ◌<◌, inl, inr, List, [], ◌∷◌, ◌++◌, refl, sym, ap, subst, ◌∙◌, append_assoc, length, length-append, take, nat_lt, arith}
+use Rattle.std.proofs.Common.{◌≡◌, ℕ, Bool, cond, ◌-◌, drop, get_or, Vec, Global, true, false}
+use Rattle.std.proofs.Common.{◌+◌, ◌<◌, inl, inr, List, [], ◌∷◌, ◌++◌, refl, sym, ap, subst, ◌∙◌, append_assoc, length, length-append, take, nat_lt, arith}
 use Rattle.std.specs.Prelude.{Option, Some, None, Result, Ok, Err, IfOk}
 use Rattle.std.proofs.lemmas.List.{append-nil, drop_more}
 use Rattle.std.proofs.lemmas.Bool.{ltb-true, ltb-false}
@@ -30,9 +31,11 @@ whole_good before k p whole = (
 by_cut : (before : List Token) (k : Kind) (left : ℕ) → AreGood before → (f : IsFault (before ++ kind_token k ∷ behind_kind k) left)
     → Cut before (kind_token k) (behind_kind k) f.before f.token f.behind → (b : Bool) → nat_lt left (length (behind_kind k)) ≡ b → Tells before k b
 by_cut before k left good f (Later more e g) true t = f.good before (kind_token k) more e
-by_cut before k left good f (Later more e g) false t = absurd (omega (arith, ltb-false left (length (behind_kind k)) t, f.left_is, ap length g ∙ length-append more (f.token ∷ f.behind)))
+by_cut before k left good f (Later more e g) false t =
+    absurd (omega (arith, ltb-false left (length (behind_kind k)) t, f.left_is, ap length g ∙ length-append more (f.token ∷ f.behind)))
 by_cut before k left good f (Same e g h) true t = absurd (omega (arith, ltb-true left (length (behind_kind k)) t, f.left_is, ap length h))
-by_cut before k left good f (Same e g h) false t = subst (λ (xs : List Token). IsBad xs (kind_token k)) (sym e) (subst (λ (x : Token). IsBad f.before x) (sym g) f.bad)
+by_cut before k left good f (Same e g h) false t =
+    subst (λ (xs : List Token). IsBad xs (kind_token k)) (sym e) (subst (λ (x : Token). IsBad f.before x) (sym g) f.bad)
 by_cut before k left good f (Earlier more e g) b t = absurd (not_both f.before f.token (good f.before f.token more e) f.bad)
 
 pub fault_tells : (before : List Token) (k : Kind) (left : ℕ) → AreGood before → IsFault (before ++ kind_token k ∷ behind_kind k) left
@@ -73,9 +76,11 @@ short_tells text at k (Some front) before e h b = absurd (cc)
 
 pub front_tells : (text : List ℕ) (at : ℕ) (k : Kind) (front before : List Token) (tokens : List Token) (places : List Position) (b : Bool)
     → IsTokensOf text tokens places → front ≡ take at tokens ++ kind_token k ∷ behind_kind k → TellsAll front k b → IsBehind text at before → Tells before k b
-front_tells text at k front before tokens places b cut is told h = told before (all_good text at before h) (tried_is text at before tokens places k front h cut is)
+front_tells text at k front before tokens places b cut is told h =
+    told before (all_good text at before h) (tried_is text at before tokens places k front h cut is)
 
-pub some_tells : {E : Type 0} (text : List ℕ) (at : ℕ) (k : Kind) (o : Option (Vec Token Global)) (front : Vec Token Global) (r : Result Bool E) → o ≡ Some front
+pub some_tells : {E : Type 0} (text : List ℕ) (at : ℕ) (k : Kind) (o : Option (Vec Token Global)) (front : Vec Token Global) (r : Result Bool E)
+    → o ≡ Some front
     → IsTried text at k o → IfOk r (TellsAll front.items k) → IfOk r (λ b. (before : List Token) → IsBehind text at before → Tells before k b)
 some_tells text at k o front (Ok b) e h told =
     let t = subst (λ o. IsTried text at k o) e h in

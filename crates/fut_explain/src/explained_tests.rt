@@ -54,7 +54,8 @@ fn type_rules(rt: HostRuntime) -> Result<(), Fail> {
     let rows: [(&[u8], &[u8]); 13] = [
         (
             b"task main() int { return foo; }",
-            b"line 1, column 26: type rule 1: unknown name: no visible variable, array or task of the kind that is due here\ntask main() int { return foo; }\n                         ^^^\n",
+            b"line 1, column 26: type rule 1: unknown name: no visible variable, array or task of the kind that is due here\n\
+              task main() int { return foo; }\n                         ^^^\n",
         ),
         (
             b"cells a[1];\ncells a[2];\ntask main() int { }",
@@ -66,7 +67,8 @@ fn type_rules(rt: HostRuntime) -> Result<(), Fail> {
         ),
         (
             b"task main() int { var h: fut int = 10; }",
-            b"line 1, column 36: type rule 4: a number where a handle is due\ntask main() int { var h: fut int = 10; }\n                                   ^^\n",
+            b"line 1, column 36: type rule 4: a number where a handle is due\n\
+              task main() int { var h: fut int = 10; }\n                                   ^^\n",
         ),
         (
             b"task f(h: fut int) int { return -h; }\ntask main() int { }",
@@ -74,15 +76,18 @@ fn type_rules(rt: HostRuntime) -> Result<(), Fail> {
         ),
         (
             b"task f(h: fut int, k: fut fut int) int { h = k; }\ntask main() int { }",
-            b"line 1, column 46: type rule 6: the handle has another depth than its place needs, or more than eight fut\ntask f(h: fut int, k: fut fut int) int { h = k; }\n                                             ^\n",
+            b"line 1, column 46: type rule 6: the handle has another depth than its place needs, or more than eight fut\n\
+              task f(h: fut int, k: fut fut int) int { h = k; }\n                                             ^\n",
         ),
         (
             b"task f(r: fut int[0]) int { }\ntask main() int { }",
-            b"line 1, column 19: type rule 7: array of handles: its length is not from 1 to 64, or an array stands where none is due, or the other way round\ntask f(r: fut int[0]) int { }\n                  ^\n",
+            b"line 1, column 19: type rule 7: array of handles: its length is not from 1 to 64, or an array stands where none is due, or the other way round\n\
+              task f(r: fut int[0]) int { }\n                  ^\n",
         ),
         (
             b"task f(h: fut int) fut int {\n}\ntask main() int { }",
-            b"line 2, column 1: type rule 8: the value returned is not of the task's result type, or a task that gives a handle does not end with return\n}\n^\n",
+            b"line 2, column 1: type rule 8: the value returned is not of the task's result type, or a task that gives a handle does not end with return\n\
+              }\n^\n",
         ),
         (
             b"task f() int { }",

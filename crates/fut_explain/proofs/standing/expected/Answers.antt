@@ -14,6 +14,7 @@ returns c =
       | in-Ok w ↦ expected_whole text tokens places w.in-Ok.ensures.0 c.match-parse_tokens.result cut w.in-Ok.ensures.2
       | in-Err-Syntax w ↦ subst (λ r. IfOk r (AreExpected text)) (sym w.result-is)
           (expected_fault text tokens places w.in-Err-Syntax.left c.len-count.result w.kinds.result.now w.standing.result cut
-          (rw w.in-Err-Syntax.field-0-is at w.in-Err-Syntax.ensures) (omega (arith, c.len-count.ensures, c.in_ok-all.field-0.tokens.ok.0)) w.kinds.ensures w.standing.ensures)
+          (rw w.in-Err-Syntax.field-0-is at w.in-Err-Syntax.ensures)
+          (omega (arith, c.len-count.ensures, c.in_ok-all.field-0.tokens.ok.0)) w.kinds.ensures w.standing.ensures)
       | in-Err-NoMemory w ↦ subst (λ r. IfOk r (AreExpected text)) (sym w.result-is) tt
     ]

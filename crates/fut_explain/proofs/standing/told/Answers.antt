@@ -11,6 +11,8 @@ returns c =
     let k = c.args.kind in
     elim c.match-parse_tokens.branch [
       | in-Ok w ↦ subst (λ r. IfOk r (TellsAll front k)) (sym w.result-is) (whole_tells k front w.in-Ok.ensures.0 w.in-Ok.ensures.2)
-      | in-Err-Syntax w ↦ subst (λ r. IfOk r (TellsAll front k)) (sym w.result-is) (stop_tells k front w.in-Err-Syntax.left _ (rw w.in-Err-Syntax.field-0-is at w.in-Err-Syntax.ensures) (ap (λ n. nat_lt w.in-Err-Syntax.left n) w.behind.ensures))
+      | in-Err-Syntax w ↦ subst (λ r. IfOk r (TellsAll front k)) (sym w.result-is)
+          (stop_tells k front w.in-Err-Syntax.left _ (rw w.in-Err-Syntax.field-0-is at w.in-Err-Syntax.ensures)
+          (ap (λ n. nat_lt w.in-Err-Syntax.left n) w.behind.ensures))
       | in-Err-NoMemory w ↦ subst (λ r. IfOk r (TellsAll front k)) (sym w.result-is) tt
     ]
