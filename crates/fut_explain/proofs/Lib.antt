@@ -1,0 +1,7 @@
+pub mod Cutting
+pub mod Trying
+pub mod Kinding
+pub mod Placing
+pub mod Finding
+pub mod Ends
+pub mod Telling

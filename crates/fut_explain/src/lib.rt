@@ -1,0 +1,12 @@
+//! What a fault is, in words and lines.
+#![tactic(auto)]
+
+pub mod explained;
+#[cfg(test)]
+mod explained_tests;
+pub mod kind;
+pub mod lines;
+pub mod mark;
+pub mod standing;
+#[cfg(test)]
+mod standing_tests;
