@@ -102,7 +102,7 @@ sought_good before all rest found k h good = record {
 
 pub sought_bad : (before : List Token) (all rest found : List Kind) (k : Kind) → IsSought before all (k ∷ rest) found → Tells before k false
     → IsSought before all rest found
-sought_bad before all rest found k h bad = record { goes = λ more s. h.goes more (inr (bad, s)); }
+sought_bad before all rest found k h bad = record { goes = λ more s. h.goes more (inr (bad, s)) }
 
 pub sought_next : (before : List Token) (all rest found : List Kind) (k : Kind) (b : Bool) → IsSought before all (k ∷ rest) found → Tells before k b
     → IsSought before all rest (found ++ cond b (k ∷ []) [])

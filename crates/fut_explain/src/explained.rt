@@ -27,8 +27,10 @@ fn rule_words(rule: u32) -> &'static [u8]
         4 => b"a number where a handle is due",
         5 => b"a handle where a number is due",
         6 => b"the handle has another depth than its place needs, or more than eight fut",
-        7 => b"array of handles: its length is not from 1 to 64, or an array stands where none is due, or the other way round",
-        8 => b"the value returned is not of the task's result type, or a task that gives a handle does not end with return",
+        7 =>
+            b"array of handles: its length is not from 1 to 64, or an array stands where none is due, or the other way round",
+        8 =>
+            b"the value returned is not of the task's result type, or a task that gives a handle does not end with return",
         9 => b"no task is named main",
         10 => b"main has parameters",
         11 => b"a handle is declared without a value",
@@ -68,7 +70,12 @@ fn push_kinds(out: &mut Vec<u8>, kinds: &[Kind]) -> Result<(), NoMemory>
 }
 
 /// What is told of a text that is no program.
-fn syntax_told(alloc: Global, place: Position, mark: Marked<'_>, found: &[Kind]) -> Result<Vec<u8>, NoMemory>
+fn syntax_told(
+    alloc: Global,
+    place: Position,
+    mark: Marked<'_>,
+    found: &[Kind],
+) -> Result<Vec<u8>, NoMemory>
     ensures { IfOk result (λ out. out.items ≡ syntax_text place mark.entry found.now) }
 {
     let mut out = Vec::new(alloc);
@@ -81,7 +88,12 @@ fn syntax_told(alloc: Global, place: Position, mark: Marked<'_>, found: &[Kind])
 }
 
 /// What is told of a program that breaks a type rule.
-fn type_told(alloc: Global, place: Position, rule: u32, mark: Marked<'_>) -> Result<Vec<u8>, NoMemory>
+fn type_told(
+    alloc: Global,
+    place: Position,
+    rule: u32,
+    mark: Marked<'_>,
+) -> Result<Vec<u8>, NoMemory>
     ensures { IfOk result (λ out. out.items ≡ type_text place rule mark.entry) }
 {
     let mut out = Vec::new(alloc);
@@ -107,7 +119,13 @@ fn explain_syntax(alloc: Global, text: &[u8], place: Position) -> Result<Vec<u8>
 }
 
 /// Tells of a program that breaks a type rule, whose first fault stands here.
-fn explain_type(alloc: Global, text: &[u8], program: &Program, rule: u32, place: Position) -> Result<Vec<u8>, NoMemory>
+fn explain_type(
+    alloc: Global,
+    text: &[u8],
+    program: &Program,
+    rule: u32,
+    place: Position,
+) -> Result<Vec<u8>, NoMemory>
     requires short { length text.now + 1 < 2 ^ 32 }
     requires parsed { Parses text.now (Ok program.now) }
     requires fault { IsFaultOf program.now rule place }
@@ -139,7 +157,11 @@ pub fn explain(alloc: Global, text: &[u8]) -> Result<Vec<u8>, NoMemory>
 {
     match parse(alloc, text) {
         Ok(program) => explain_program(alloc, text, &program),
-        Err(ParseFault::Syntax { line, column }) => explain_syntax(alloc, text, Position { line, column }),
+        Err(ParseFault::Syntax { line, column }) => explain_syntax(
+            alloc,
+            text,
+            Position { line, column },
+        ),
         Err(ParseFault::NoMemory) => Err(NoMemory),
     }
 }

@@ -105,7 +105,10 @@ fn type_rules(rt: HostRuntime) -> Result<(), Fail> {
             b"cells a[0];\ntask main() int { }",
             b"line 1, column 9: type rule 12: a limit of cells, tasks, parameters, arguments or slots is exceeded\ncells a[0];\n        ^\n",
         ),
-        (b"task main() int { }", b"a program that breaks no type rule\n"),
+        (
+            b"task main() int { }",
+            b"a program that breaks no type rule\n",
+        ),
     ];
     for (text, want) in rows {
         let got = told(rt.alloc(), text)?;

@@ -50,7 +50,11 @@ fn width_at(alloc: Global, text: &[u8], place: Position) -> Result<usize, NoMemo
 }
 
 /// The line of a text on which a token stands, and its width.
-pub fn mark_under<'a>(alloc: Global, text: &'a [u8], place: Position) -> Result<Marked<'a>, NoMemory>
+pub fn mark_under<'a>(
+    alloc: Global,
+    text: &'a [u8],
+    place: Position,
+) -> Result<Marked<'a>, NoMemory>
     requires short { length text.now + 1 < 2 ^ 32 }
     requires here { (x : Token) × IsTokenAt text.now place x }
     ensures { IfOk result (λ m. IsMarked text.now place m) }

@@ -25,7 +25,10 @@ fn kinds_by_hand(rt: HostRuntime) -> Result<(), Fail> {
         (b"task f(", "a word ) "),
         (b"task f() fut }", "int fut "),
         (b"task f() int { x + 1; }", "[ = "),
-        (b"task f() int { sync; } else { }", "cells task the end of the text "),
+        (
+            b"task f() int { sync; } else { }",
+            "cells task the end of the text ",
+        ),
         (b"task f() int { return - - 1; }", "a word a number ( "),
         (b"task f() int { return 1 + 1 + 1; }", "; "),
     ];

@@ -5,7 +5,7 @@ use Rattle.fut_explain.proofs.Placing.{goes_first}
 use Rattle.fut_explain.proofs.lines.bytes_before.Goals as goal
 
 pub loop-at-init : goal.loop-at-init
-loop-at-init c = record { here = refl; goes = goes_first c.args.text.now c.args.place c.requires.within; }
+loop-at-init c = record { here = refl; goes = goes_first c.args.text.now c.args.place c.requires.within }
 
 pub place_on-here-requires-clause-column : goal.place_on-here-requires-clause-column
 place_on-here-requires-clause-column c =

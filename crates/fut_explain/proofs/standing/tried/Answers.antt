@@ -10,12 +10,14 @@ returns c =
     let all = c.in_ok-front.field-0.tokens.items in
     let k = c.args.kind in
     let is : c.push_kind.new.out.items ≡ take c.args.at all ++ kind_token k ∷ behind_kind k =
-        c.in_ok-push_kind.ensures ∙ ap (λ l. l ++ kind_token k ∷ behind_kind k) c.truncate.ensures.items in
+    c.in_ok-push_kind.ensures ∙ ap (λ l. l ++ kind_token k ∷ behind_kind k) c.truncate.ensures.items in
     let less : c.args.at < length all = omega (arith, c.if-len-at.false, c.len.ensures, c.in_ok-front.field-0.tokens.ok.0) in (
       subst IsEnded (sym is) (front_ended all c.args.at (kind_token k ∷ behind_kind k) c.in_ok-front.ensures.ended less (kind_ended k)),
-      (all,
-      c.in_ok-front.field-0.places.items,
-      c.in_ok-front.ensures.tokens,
-      less,
-      is),
+      (
+        all,
+        c.in_ok-front.field-0.places.items,
+        c.in_ok-front.ensures.tokens,
+        less,
+        is,
+      ),
     )
