@@ -1,0 +1,9 @@
+pub mod Drawn
+pub mod Jobs
+pub mod Lines
+pub mod Turns
+pub mod Books
+pub mod Tabling
+pub mod Steps
+pub mod Waking
+pub mod Coming
