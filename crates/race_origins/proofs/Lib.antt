@@ -1,0 +1,4 @@
+pub mod Marking
+pub mod Pasts
+pub mod Places
+pub mod Ways
