@@ -1,4 +1,5 @@
 pub mod Marking
+pub mod Partings
 pub mod Pasts
 pub mod Places
 pub mod Ways

@@ -1,6 +1,6 @@
 -- Places of lists.
-use Rattle.std.proofs.Common.{◌≡◌, ℕ, ◌+◌, ◌<◌, ◌≤◌, Bool, true, false, List, length, get_or, map, refl, sym, ◌∙◌, ap, subst, arith, inl, inr}
-use Rattle.std.specs.Prelude.{slice_get, Some, option_map, ◌&&◌}
+use Rattle.std.proofs.Common.{◌≡◌, ℕ, ◌+◌, ◌<◌, ◌≤◌, Bool, false, List, length, get_or, map, refl, sym, ◌∙◌, ap, subst, arith, inl, inr}
+use Rattle.std.specs.Prelude.{slice_get, Some, option_map}
 use Rattle.std.proofs.lemmas.Bool.{cases_eq}
 use Rattle.std.proofs.lemmas.Option.{slice_get-map, slice_get_read, same_Some}
 use Rattle.fut_base.specs.declared.record.Entry.{Entry}
@@ -22,15 +22,3 @@ none_from_here p xs i n x next at fails later k y le there =
           subst (λ z. p z ≡ false) (same_Some x y (sym at ∙ subst (λ m. slice_get xs m ≡ Some y) same there)) fails
       | inr other ↦ later k y (omega (arith, next)) there
     ]
-
-pub both_marks : (a b : Bool) → a ≡ true → b ≡ true → (a && b) ≡ true
-both_marks true b one other = other
-both_marks false b one other = cc
-
-pub one_fails : (a b : Bool) → a ≡ false → (a && b) ≡ false
-one_fails true b h = cc
-one_fails false b h = refl
-
-pub other_fails : (a b : Bool) → b ≡ false → (a && b) ≡ false
-other_fails true b h = h
-other_fails false b h = refl

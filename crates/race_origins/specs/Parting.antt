@@ -1,9 +1,10 @@
 -- The entry at which two strands part.
-use Rattle.std.specs.Prelude.{◌≡◌, ℕ, ◌<◌, Bool, true, false, List, map, slice_get, Option, Some, None}
+use Rattle.std.specs.Prelude.{◌≡◌, ℕ, ◌<◌, Bool, true, false, ◌&&◌, List, map, slice_get, Option, Some, None}
 use Rattle.fut_base.specs.declared.event.Event.{Event}
 use Rattle.fut_base.specs.Dag.{Reaches, edges_of}
 use Rattle.race_origins.specs.declared.origins.Origins.{Origins}
 use Rattle.race_origins.specs.Edges.{ends_of}
+use Rattle.race_origins.specs.Marks.{has}
 
 -- in a history a strand reaches both of two
 pub record ReachesBoth (h : List Event) (u v strand : ℕ) : Type 0 where
@@ -21,6 +22,10 @@ pub record IsParting (h : List Event) (u v i : ℕ) : Type 0 where
 abbrev pub IsPartingOf : List Event → ℕ → ℕ → Option ℕ → Type 0
 IsPartingOf h u v None = (j : ℕ) (entry : Event) → slice_get h j ≡ Some entry → ReachesBoth h u v entry.strand → ⊥
 IsPartingOf h u v (Some i) = IsParting h u v i
+
+-- whether the strand of an event has both marks
+abbrev pub has_both : List Bool → List Bool → Event → Bool
+has_both one other e = has one e.strand && has other e.strand
 
 -- the greatest place of a list whose item passes a test, where there is one
 abbrev pub IsLastPlace : {X : Type 0} → (X → Bool) → List X → Option ℕ → Type 0

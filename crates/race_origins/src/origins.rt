@@ -1,12 +1,10 @@
 //! The parting entry of two strands.
-ghost use Rattle.std.specs.Prelude.{◌≡◌, ◌&&◌, map, IfOk};
+ghost use Rattle.std.specs.Prelude.{◌≡◌, map, IfOk};
 ghost use Rattle.fut_base.specs.Events.{event_of, events_of};
-ghost use Rattle.race_origins.specs.Marks.{has};
-ghost use Rattle.race_origins.specs.Parting.{IsPartingOf, IsLastPlace, AreOriginsOf};
+ghost use Rattle.race_origins.specs.Parting.{IsPartingOf, IsLastPlace, AreOriginsOf, has_both};
 
 use crate::edges::{Edge, edges_made};
-use crate::marks;
-use crate::marks::marks_before;
+use crate::marks::{has, marks_before};
 use fut_base::list::NoMemory;
 use fut_base::record::{Entry, History};
 use std::alloc::Global;
@@ -17,13 +15,19 @@ pub struct Origins {
     edges: Vec<Edge>,
 }
 
+// Whether the strand of an entry has both marks.
+fn has_both(entry: &Entry, one: &[bool], other: &[bool]) -> bool
+    ensures { result ≡ has_both one.now other.now (event_of entry.now) }
+{
+    has(one, entry.strand) && has(other, entry.strand)
+}
+
 // The greatest place of an entry whose strand has both marks.
 fn last_of_both(entries: &[Entry], one: &[bool], other: &[bool]) -> Option<usize>
-    ensures { IsLastPlace (λ e. has one.now e.strand && has other.now e.strand) (map event_of entries.now) result }
+    ensures { IsLastPlace (has_both one.now other.now) (map event_of entries.now) result }
 {
     for place in (0..entries.len()).rev() {
-        let strand = entries[place].strand;
-        if marks::has(one, strand) && marks::has(other, strand) {
+        if has_both(&entries[place], one, other) {
             return Some(place);
         }
     }
