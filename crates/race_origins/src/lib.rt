@@ -9,3 +9,5 @@ mod edges;
 mod marks;
 pub mod origins;
 mod tasks;
+#[cfg(test)]
+mod tests;
