@@ -6,6 +6,7 @@
 #![tactic(auto)]
 
 mod edges;
+pub mod laws;
 mod marks;
 pub mod origins;
 mod tasks;
