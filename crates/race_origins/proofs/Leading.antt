@@ -1,5 +1,5 @@
 -- From an edge to the event that makes it or that ends the task from whose last strand it leads.
-use Rattle.std.proofs.Common.{◌≡◌, ℕ, zero, suc, Bool, true, false, List, [], ◌∷◌, ◌++◌, reverse, ◌⊎◌, inl, inr, refl, sym, ap, ◌∙◌, subst}
+use Rattle.std.proofs.Common.{◌≡◌, ℕ, suc, true, List, [], ◌∷◌, reverse, ◌⊎◌, inl, inr, refl, sym, ap, ◌∙◌, subst}
 use Rattle.std.specs.Prelude.{Option, Some, None, ◌==◌, ◌&&◌, if◌then◌else◌, slice_get, option_map}
 use Rattle.std.specs.List.{cons_option}
 use Rattle.std.proofs.lemmas.Bool.{and_parts}
@@ -11,7 +11,7 @@ use Rattle.fut_base.specs.declared.event.Event.{Event}
 use Rattle.fut_base.specs.declared.event.Action.{Action}
 use Rattle.fut_base.specs.declared.event.Action.TheVariants.{Reads, Writes, Spawns, Creates, Syncs, Gets, Ends}
 use Rattle.fut_base.specs.Events.{structural}
-use Rattle.fut_base.specs.Dag.{Among, IsPath, ReachesBy, Reaches, last_of, ends, block_of, joins, edges_by, edges_past, edges_of}
+use Rattle.fut_base.specs.Dag.{Among, Reaches, last_of, ends, block_of, joins, edges_by, edges_past, edges_of}
 
 -- an edge from the strand of this action can lead to b
 abbrev pub LeadsTo : Action → ℕ → Type 0

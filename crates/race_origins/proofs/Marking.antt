@@ -1,7 +1,7 @@
 -- One more mark.
-use Rattle.std.proofs.Common.{◌≡◌, ℕ, ◌+◌, ◌<◌, ◌≤◌, zero, suc, Bool, true, false, List, [], ◌∷◌, length, take, drop, get_or, set, replicate, map, ◌∙◌, ap}
+use Rattle.std.proofs.Common.{◌≡◌, ℕ, ◌+◌, ◌<◌, ◌≤◌, Bool, true, false, List, length, take, drop, get_or, set, map, ◌∙◌, ap}
 use Rattle.std.proofs.Common.{sym, subst, arith, inl, inr, refl, ◌⊎◌}
-use Rattle.std.specs.Prelude.{All, ◌||◌, ◌&&◌, not, if◌then◌else◌, cond}
+use Rattle.std.specs.Prelude.{All, ◌&&◌, not, if◌then◌else◌, cond}
 use Rattle.std.proofs.lemmas.Bool.{and_parts, cases_eq}
 use Rattle.std.proofs.lemmas.List.{get_or-set_same, get_or-set_other, drop_more}
 use Rattle.std.proofs.lemmas.List.Elements.{All-cons, All-more, All-weaker}

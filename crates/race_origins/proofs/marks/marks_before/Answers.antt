@@ -1,4 +1,4 @@
-use Rattle.std.proofs.Common.{◌≡◌, ℕ, true, ◌++◌, length, take, drop, map, arith, subst, sym, ◌∙◌, IsTrue, ◌↔◌}
+use Rattle.std.proofs.Common.{◌≡◌, ℕ, true, ◌++◌, length, take, drop, map, subst, sym, ◌∙◌, IsTrue, ◌↔◌}
 use Rattle.std.proofs.Math.Seq.{take-append_seam}
 use Rattle.fut_base.specs.Dag.{ReachesBy}
 use Rattle.race_origins.specs.Edges.{ends_of}

@@ -1,4 +1,4 @@
-use Rattle.std.proofs.Common.{◌≡◌, ◌+◌, ◌-◌, ◌<◌, false, length, get_or, arith, subst, sym, ◌∙◌}
+use Rattle.std.proofs.Common.{◌-◌, ◌<◌, false, length, get_or, arith, subst, sym, ◌∙◌}
 use Rattle.std.proofs.lemmas.Bool.{both_ways}
 use Rattle.race_origins.specs.declared.edges.Edge.{Edge}
 use Rattle.race_origins.proofs.Marking.{kept_more, sound_more, fewer, closed_more}

@@ -1,4 +1,4 @@
-use Rattle.std.proofs.Common.{◌≡◌, List, Bool, map, ◌∙◌, ap, subst}
+use Rattle.std.proofs.Common.{List, Bool, map, ◌∙◌, ap, subst}
 use Rattle.fut_base.specs.declared.record.Entry.{Entry}
 use Rattle.fut_base.specs.Events.{event_of, events_of}
 use Rattle.race_origins.specs.Edges.{ends_of}
