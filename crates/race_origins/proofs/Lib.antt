@@ -1,8 +1,10 @@
+pub mod Cutting
 pub mod Leading
 pub mod Marking
 pub mod Parts
 pub mod Partings
 pub mod Pasts
 pub mod Places
+pub mod Roots
 pub mod Standing
 pub mod Ways

@@ -1,73 +1,29 @@
 -- What a parting entry can be.
-use Rattle.std.proofs.Common.{◌≡◌, ◌≢◌, ℕ, zero, suc, ◌<◌, ◌≤◌, true, List, [], ◌∷◌, ◌++◌, reverse, inl, inr, refl, sym, ap}
-use Rattle.std.proofs.Common.{◌∙◌, subst, arith, append_assoc}
+use Rattle.std.proofs.Common.{◌≡◌, ◌≢◌, ℕ, ◌<◌, ◌≤◌, true, List, inl, inr, refl, sym, ◌∙◌, subst, arith}
 use Rattle.std.specs.Prelude.{Option, Some, None, IsSome, slice_get}
 use Rattle.std.proofs.lemmas.Bool.{cases_lt}
-use Rattle.std.proofs.lemmas.List.{reverse-append}
 use Rattle.std.proofs.lemmas.Option.{same_Some}
-use Rattle.fut_base.proofs.Members.{among_left, among_right}
 use Rattle.fut_base.specs.declared.event.Event.{Event}
 use Rattle.fut_base.specs.declared.event.Action.{Action}
 use Rattle.fut_base.specs.declared.event.Action.TheVariants.{Reads, Writes, Spawns, Creates, Syncs, Gets, Ends}
 use Rattle.fut_base.specs.Events.{structural}
-use Rattle.fut_base.specs.Dag.{Among, Reaches, AreJoined, last_of}
+use Rattle.fut_base.specs.Dag.{Reaches, AreJoined, last_of}
 use Rattle.fut_base.specs.Sound.{current, next_strand}
 use Rattle.race_origins.specs.Parting.{IsParting, ReachesBoth}
-use Rattle.race_origins.specs.Laws.{parts, AreStanding, IsInStep, PartingParts}
-use Rattle.race_origins.proofs.Standing.{IsFresh, AreFresh, IsKnown, known, fresh_in_step}
+use Rattle.race_origins.specs.Laws.{parts, IsInStep, PartingParts}
+use Rattle.race_origins.proofs.Standing.{IsFresh, IsKnown, known}
+use Rattle.race_origins.proofs.Cutting.{cut, standing_at, fresh_at}
 use Rattle.race_origins.proofs.Leading.{LeadsTo, leads_structural, IsSourceAt, GoesOn, goes_on}
 
--- the events before a place, the newest first, and the one that stands there
-record IsCut (h : List Event) (j : ℕ) (d : Event) : Type 0 where
-  before : List Event
-  later : List Event
-  is : reverse h ≡ later ++ d ∷ before
-  earlier : (i : ℕ) (e : Event) → i < j → slice_get h i ≡ Some e → Among e before
-
-cut : (h : List Event) (j : ℕ) (d : Event) → slice_get h j ≡ Some d → IsCut h j d
-cut [] j d at = cc
-cut (x ∷ h) zero d at = record {
-  before = [];
-  later = reverse h;
-  is = reverse-append (x ∷ []) h ∙ ap (λ y. reverse h ++ y ∷ []) (same_Some x d at);
-  earlier = λ i e lt. absurd (omega (arith, lt));
-}
-cut (x ∷ h) (suc j) d at = let c = cut h j d at in record {
-  before = c.before ++ x ∷ [];
-  later = c.later;
-  is = reverse-append (x ∷ []) h ∙ ap (λ l. l ++ x ∷ []) c.is ∙ append_assoc c.later (d ∷ c.before) (x ∷ []);
-  earlier = earlier_more x h j c.before c.earlier;
-}
-  where
-    earlier_more : (x : Event) (h : List Event) (j : ℕ) (before : List Event)
-        → ((i : ℕ) (e : Event) → i < j → slice_get h i ≡ Some e → Among e before)
-        → (i : ℕ) (e : Event) → i < suc j → slice_get (x ∷ h) i ≡ Some e → Among e (before ++ x ∷ [])
-    earlier_more x h j before old zero e lt at = among_right e before (x ∷ []) (inl (same_Some x e at))
-    earlier_more x h j before old (suc i) e lt at = among_left e before (x ∷ []) (old i e (omega (arith, lt)) at)
-
-rest_standing : (later past : List Event) → AreStanding (later ++ past) → AreStanding past
-rest_standing [] past h = h
-rest_standing (e ∷ later) past h = rest_standing later past h.0
-
-rest_fresh : (later past : List Event) → AreFresh (later ++ past) → AreFresh past
-rest_fresh [] past h = h
-rest_fresh (e ∷ later) past h = rest_fresh later past h.0
-
 module _ (h : List Event) (ok : IsInStep h) where
-  standing_at : (j : ℕ) (d : Event) (at : slice_get h j ≡ Some d) → AreStanding (d ∷ (cut h j d at).before)
-  standing_at j d at = let c = cut h j d at in rest_standing c.later (d ∷ c.before) (subst AreStanding c.is ok.standing)
-
-  fresh_at : (j : ℕ) (d : Event) (at : slice_get h j ≡ Some d) → AreFresh (d ∷ (cut h j d at).before)
-  fresh_at j d at = let c = cut h j d at in rest_fresh c.later (d ∷ c.before) (subst AreFresh c.is (fresh_in_step h ok))
-
   known_at : (j : ℕ) (d : Event) (at : slice_get h j ≡ Some d) → IsKnown (cut h j d at).before
-  known_at j d at = known (cut h j d at).before (standing_at j d at).0 (fresh_at j d at).0
+  known_at j d at = known (cut h j d at).before (standing_at h ok j d at).0 (fresh_at h ok j d at).0
 
   -- no event stands on a strand that a structural one left
   left_for_good : (i j : ℕ) (e d : Event) → i < j → slice_get h i ≡ Some e → slice_get h j ≡ Some d → structural e.action ≡ true → d.strand ≢ e.strand
   left_for_good i j e d lt at there st same =
       let c = cut h j d there in
-      let stands = standing_at j d there in
+      let stands = standing_at h ok j d there in
       let ended : IsSome (last_of c.before d.task) =
       (known_at j d there).left e (c.earlier i e lt at) st d.task (subst (λ s. current c.before d.task ≡ Some s) same stands.1) in
       let none : IsSome {T = ℕ} None = subst (λ (o : Option ℕ). IsSome o) stands.2 ended in
@@ -83,7 +39,7 @@ module _ (h : List Event) (ok : IsInStep h) where
             let place : i ≡ j = omega (arith, le, ge) in
             let same : d ≡ e = same_Some d e (sym there ∙ subst (λ k. slice_get h k ≡ Some e) place at) in
             subst (λ (x : Event). x.strand < next_strand (cut h j d there).before) same
-            ((known_at j d there).below d.task d.strand (standing_at j d there).1))
+            ((known_at j d there).below d.task d.strand (standing_at h ok j d there).1))
       ]
 
   module _ (u v i : ℕ) (apart : AreJoined h u v → ⊥) (p : IsParting h u v i) where

@@ -107,7 +107,7 @@ fork_cases t by child kid cont old s h =
       | inr other ↦ elim (step_cases t child kid old s other.1) [ inl at ↦ inl (inr at) | inr rest ↦ inr (other.0, rest.1) ]
     ]
 
-current_cases : (by : ℕ) (a : Action) (t : ℕ) (old : Option ℕ) (s : ℕ) → current_by by a t old ≡ Some s → IsNewAt by a t s ⊎ (IsLeftAt by a t × (old ≡ Some s))
+pub current_cases : (by : ℕ) (a : Action) (t : ℕ) (old : Option ℕ) (s : ℕ) → current_by by a t old ≡ Some s → IsNewAt by a t s ⊎ (IsLeftAt by a t × (old ≡ Some s))
 current_cases by (Reads _ _) t old s h = inr (tt, h)
 current_cases by (Writes _ _) t old s h = inr (tt, h)
 current_cases by (Spawns _ child kid cont _) t old s h = fork_cases t by child kid cont old s h
@@ -215,7 +215,7 @@ module _ (past : List Event) (k : IsKnown past) (e : Event) (stands : current pa
   known_more : IsKnown (e ∷ past)
   known_more = record { below = below_more; own = own_more; on = on_more; left = left_more }
 
-start_is : (t s : ℕ) → current [] t ≡ Some s → (t ≡ 0) × (s ≡ 0)
+pub start_is : (t s : ℕ) → current [] t ≡ Some s → (t ≡ 0) × (s ≡ 0)
 start_is t s = by_eq (λ b. (if b then Some 0 else None) ≡ Some s → (t ≡ 0) × (s ≡ 0)) t 0 (λ e h. (e, sym (same_Some 0 s h))) (λ n h. cc)
 
 pub known : (past : List Event) → AreStanding past → AreFresh past → IsKnown past
