@@ -1,0 +1,13 @@
+pub mod Setting
+pub mod Touched
+pub mod Told
+pub mod Given
+pub mod Judging
+pub mod Shifting
+pub mod Counting
+pub mod Pacing
+pub mod Readying
+pub mod Fresh
+pub mod Answered
+pub mod Calling
+pub mod Seating

@@ -1,0 +1,4 @@
+pub mod Shards
+pub mod Turns
+pub mod Dids
+pub mod Ends
