@@ -81,6 +81,7 @@ impl<J: Run> Book<J> {
         ensures parked { result.parked ≡ self.lines }
         ensures seats { (result.holder ≡ self.holder) × (result.writer ≡ self.writer) }
         ensures running { result.running + taken_from hands.items ≡ 1 + given_to hands.items }
+        ensures counted { result.running ≡ self.counts.running }
     {
         let Book {
             alloc,
