@@ -1,0 +1,5 @@
+pub mod Over
+pub mod Touching
+pub mod Ending
+pub mod Merging
+pub mod Hearing

@@ -1,0 +1,4 @@
+pub mod Over
+pub mod Halted
+pub mod Runs
+pub mod Cells

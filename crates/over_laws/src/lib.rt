@@ -1,0 +1,4 @@
+//! What is known when a run is over.
+#![tactic(auto)]
+
+pub mod laws;
