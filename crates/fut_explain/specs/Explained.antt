@@ -5,6 +5,8 @@ use Rattle.fut_tokens.specs.declared.token.Position.{Position}
 use Rattle.fut_syntax.specs.declared.tree.Program as declared
 use Rattle.fut_syntax.specs.Texts.{IsFaultPlace, Parses}
 use Rattle.fut_check.specs.Checks.{IsChecked, IsFaultOf}
+use Rattle.fut_explain.specs.declared.explained.Verdict.{Verdict}
+use Rattle.fut_explain.specs.declared.explained.Verdict.TheVariants as verdict
 use Rattle.fut_explain.specs.declared.kind.Kind.{Kind}
 use Rattle.fut_explain.specs.declared.mark.Marked.{Marked}
 use Rattle.fut_explain.specs.Kinds.{all_kinds, kind_name}
@@ -82,8 +84,8 @@ pub record TellsClean (text out : List ℕ) : Type 0 where
   pub checked : IsChecked program
   pub is : out ≡ clean_text
 
--- what is told of a program text
-pub data Explains (text out : List ℕ) : Type 0 where
-  NoProgram : TellsSyntax text out → Explains text out
-  IllTyped : TellsType text out → Explains text out
-  WellTyped : TellsClean text out → Explains text out
+-- what a program text is, and what is told of it
+abbrev pub Explains : List ℕ → Verdict → List ℕ → Type 0
+Explains text verdict.NoProgram out = TellsSyntax text out
+Explains text verdict.IllTyped out = TellsType text out
+Explains text verdict.WellTyped out = TellsClean text out

@@ -7,7 +7,7 @@ use std::test::Fail;
 /// What is told of a short text.
 fn told(alloc: Global, text: &[u8]) -> Result<Vec<u8>, NoMemory> {
     if text.len() < 1000 {
-        explain(alloc, text)
+        Ok(explain(alloc, text)?.text)
     } else {
         Ok(Vec::new(alloc))
     }

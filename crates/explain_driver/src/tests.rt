@@ -1,0 +1,1 @@
+//! Calls over a source and a sink in memory.
