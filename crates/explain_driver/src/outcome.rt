@@ -2,7 +2,7 @@
 ghost use Rattle.std.specs.Prelude.{◌≡◌, ◌≢◌, ◌≤◌, ◌↔◌, IsTrue, length};
 ghost use Rattle.fut_base.specs.declared.limits.TheConstants.{MOST_PROGRAM_BYTES};
 ghost use Rattle.explain_driver.specs.Answers.{Asked, asked_of, due_text, IsRecordText, IsOfWhole, IsOfLonger, IsOfSource, IsVerdict};
-ghost use Rattle.explain_driver.specs.declared.line.Line.TheVariants as line;
+ghost use Rattle.explain_driver.specs.declared.line.Line.TheVariants.{Bare};
 
 use crate::input::{Input, read_all};
 use crate::line::Line;
@@ -97,7 +97,7 @@ fn of_source<S: Source>(alloc: Global, source: &mut S) -> Outcome
 /// Reads the source where the command line is bare, and tells of it.
 pub fn outcome_of<S: Source>(alloc: Global, line: Line, source: &mut S) -> Outcome
     ensures verdict { IsVerdict line (asked_of S.Source source.old source.new) result.status (due_text result.status result.made.items) }
-    ensures unread { line ≢ line.Bare → source.new ≡ source.old }
+    ensures unread { line ≢ Bare → source.new ≡ source.old }
 {
     match line {
         Line::Bare => of_source(alloc, source),

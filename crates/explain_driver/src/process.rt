@@ -2,7 +2,7 @@
 ghost use Rattle.std.specs.Prelude.{◌≡◌, ◌≢◌};
 ghost use Rattle.std.specs.Process.{exit_status};
 ghost use Rattle.explain_driver.specs.declared.line.Line.{Line};
-ghost use Rattle.explain_driver.specs.declared.line.Line.TheVariants as line;
+ghost use Rattle.explain_driver.specs.declared.line.Line.TheVariants.{Bare};
 ghost use Rattle.explain_driver.specs.Answers.{Asked, Told, asked_of, told_of, IsAnswer, IsEnding};
 ghost use Rattle.explain_driver.specs.Process.{EndsWith, IsLineOf};
 
@@ -41,7 +41,7 @@ pub fn answer<S: Source, K: Sink>(alloc: Global, line: Line, source: &mut S, out
     ensures answer { IsAnswer line (asked_of S.Source source.old source.new) (told_of K.Sink out.old out.new) result }
 
     // Where the line is not bare nothing is read.
-    ensures unread { line ≢ line.Bare → source.new ≡ source.old }
+    ensures unread { line ≢ Bare → source.new ≡ source.old }
 {
     let outcome = outcome_of(alloc, line, source);
     told(&outcome, out)
