@@ -1,0 +1,3 @@
+pub mod Args
+pub mod Bodies
+pub mod Firsts
