@@ -1,15 +1,15 @@
 -- Going over statements with blocks, and over blocks.
-use Rattle.std.proofs.Common.{◌≡◌, ℕ, ◌+◌, ◌≤◌, List, [], ◌++◌, length, take, refl, sym, ap, ◌∙◌, append_assoc, arith, length-append}
+use Rattle.std.proofs.Common.{◌≡◌, ℕ, ◌+◌, ◌≤◌, List, [], ◌∷◌, ◌++◌, length, take, refl, sym, ap, ◌∙◌, append_assoc, arith, length-append}
 use Rattle.std.proofs.lemmas.List.{append-nil, take-append-le}
 use Rattle.fut_syntax.specs.Trees.{Expr, Item, Stmt, If', While', Block, Then, Tail, ElseOf}
 use Rattle.fut_rules.specs.declared.names.Variable.{Variable}
 use Rattle.fut_rules.specs.Names.{Scope}
 use Rattle.fut_rules.specs.Exprs.{for_int}
 use Rattle.fut_causes.specs.declared.seek.Wanted.{Wanted}
-use Rattle.fut_causes.specs.Causes.{needed_causes, stmt_causes, block_causes, tail_causes}
+use Rattle.fut_causes.specs.Causes.{items_causes, item_causes, needed_causes, stmt_causes, block_causes, tail_causes}
 use Rattle.fut_causes.specs.Seeking.{Seeking, Sought, Passed, first}
 use Rattle.fut_check.specs.Stmts.{scope_after, with_declared, shown, declared_in, declared_in_block, declared_in_tail}
-use Rattle.fut_rules.specs.Widths.{expr_width, stmt_width, block_width, tail_width}
+use Rattle.fut_rules.specs.Widths.{expr_width, item_width, stmt_width, block_width, tail_width}
 use Rattle.fut_causes.proofs.Firsts.{first_append, sought_both, sought_past, past_sought, sought_as}
 
 declared_twice : (s : Scope) (xs ys : List Variable)
@@ -82,3 +82,12 @@ visible_step s s1 x n is le = ap (λ (t : Scope). take n t.visible) is ∙ take-
 
 pub count_step : (s s1 : Scope) (x : Stmt) (n : ℕ) → s1 ≡ scope_after s x → n ≤ length s.visible → n ≤ length s1.visible
 count_step s s1 x n is le = omega (arith, ap (λ (t : Scope). length t.visible) is, length-append s.visible (shown x))
+
+-- what is left of items behind their first
+pub items_step : (t : Wanted) (g : List Item) (a a1 : Seeking) (x : Item) (rest : List Item) → a.wanted ≡ t
+    → Sought a a1 (item_width x) (item_causes g a.at x)
+    → first t a.found (items_causes g a.at (x ∷ rest)) ≡ first t a1.found (items_causes g a1.at rest)
+items_step t g a a1 x rest is w =
+    first_append t a.found (item_causes g a.at x) (items_causes g (a.at + item_width x) rest)
+    ∙ ap (λ f. first t f (items_causes g (a.at + item_width x) rest)) (sym (w.found ∙ ap (λ v. first v a.found (item_causes g a.at x)) is))
+    ∙ ap (λ n. first t a1.found (items_causes g n rest)) (sym w.at)

@@ -1,3 +1,4 @@
 pub mod Args
 pub mod Bodies
 pub mod Firsts
+pub mod Wholes

@@ -2,7 +2,7 @@
 ghost use Rattle.std.specs.Prelude.{◌≡◌, ◌+◌, ◌≤◌, IfOk, []};
 ghost use Rattle.fut_syntax.specs.Trees as trees;
 ghost use Rattle.fut_syntax.specs.Views.{block_tree, params_tree, param_tree, item_tree, items_tree};
-ghost use Rattle.fut_rules.specs.Widths.{each_param_width, params_width, item_width, items_width};
+ghost use Rattle.fut_rules.specs.Widths.{param_width, each_param_width, params_width, item_width, items_width};
 ghost use Rattle.fut_check.specs.Items.{with_param, with_params, opening_scope};
 ghost use Rattle.fut_causes.specs.Causes as spec;
 ghost use Rattle.fut_causes.specs.Seeking.{Sought, Passed};
@@ -22,6 +22,16 @@ fn declare_param(alloc: Global, scope: &mut Scope, param: &Param) -> Result<(), 
     scope.declare(alloc, param.name.as_slice(), kind_of(&param.kind))
 }
 
+/// Goes over a parameter and the comma or the closing bracket behind it.
+fn seek_param(seek: &mut Seek<'_>, param: &Param)
+    requires { seek.old.at + param_width (param_tree param.now) ≤ seek.old.end }
+    ensures { Sought seek.old seek.new (param_width (param_tree param.now)) [] }
+{
+    seek.skip(2);
+    seek_type(seek, &param.kind);
+    seek.skip(1);
+}
+
 /// Goes over parameters, each with a comma or the closing bracket behind it.
 fn seek_each_param(
     alloc: Global,
@@ -34,9 +44,7 @@ fn seek_each_param(
         (with_params scope.old (params_tree params.now))) }
 {
     for param in params {
-        seek.skip(2);
-        seek_type(seek, &param.kind);
-        seek.skip(1);
+        seek_param(seek, param);
         declare_param(alloc, scope, param)?;
     }
     Ok(())
@@ -72,6 +80,7 @@ fn seek_head(
         (opening_scope depth (params_tree params.now))) }
 {
     seek.skip(3);
+    let _first = seek.at();
     let mut scope = Scope::new(alloc, depth);
     seek_params(alloc, seek, &mut scope, params)?;
     seek.skip(depth as usize + 2);
