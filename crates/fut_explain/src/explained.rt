@@ -6,10 +6,13 @@ ghost use Rattle.fut_check.specs.Checks.{IsFaultOf};
 ghost use Rattle.fut_explain.specs.Lines.{IsTokenAt, IsMarked};
 ghost use Rattle.fut_explain.specs.Explained.{Explains, TellsSyntax, TellsType, place_text, kind_line, kind_lines, syntax_text, rule_words, type_text};
 
+use crate::causes::push_cause;
 use crate::kind::Kind;
 use crate::mark::{Marked, mark_under};
 use crate::standing::expected;
 use fut_base::list::NoMemory;
+use fut_causes::cause::Cause;
+use fut_causes::cause_of;
 use fut_check::{CheckFault, check};
 use fut_syntax::tree::Program;
 use fut_syntax::{ParseFault, parse};
@@ -111,8 +114,9 @@ fn type_told(
     place: Position,
     rule: u32,
     mark: Marked<'_>,
+    cause: Option<Cause>,
 ) -> Result<Vec<u8>, NoMemory>
-    ensures { IfOk result (λ out. out.items ≡ type_text place rule mark.entry) }
+    ensures { IfOk result (λ out. out.items ≡ type_text place rule mark.entry cause) }
 {
     let mut out = Vec::new(alloc);
     push_place(alloc, &mut out, place)?;
@@ -122,6 +126,7 @@ fn type_told(
     out.extend_from_slice(rule_words(rule))?;
     out.extend_from_slice(b"\n")?;
     mark.push(&mut out)?;
+    push_cause(alloc, &mut out, cause)?;
     Ok(out)
 }
 
@@ -150,7 +155,8 @@ fn explain_type(
     ensures { IfOk result (λ out. TellsType text.now out.items) }
 {
     let mark = mark_under(alloc, text, place)?;
-    type_told(alloc, place, rule, mark)
+    let cause = cause_of(alloc, program, rule, place)?;
+    type_told(alloc, place, rule, mark, cause)
 }
 
 /// Tells of a text that is this program.
