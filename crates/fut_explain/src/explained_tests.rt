@@ -63,7 +63,8 @@ fn type_rules(rt: HostRuntime) -> Result<(), Fail> {
         ),
         (
             b"task f() int { }\ntask main() int { spawn f(1); }",
-            b"line 2, column 25: type rule 3: wrong number of arguments\ntask main() int { spawn f(1); }\n                        ^\narguments found: 1\narguments due: 0\n",
+            b"line 2, column 25: type rule 3: wrong number of arguments\n\
+              task main() int { spawn f(1); }\n                        ^\narguments found: 1\narguments due: 0\n",
         ),
         (
             b"task main() int { var h: fut int = 10; }",
@@ -72,7 +73,8 @@ fn type_rules(rt: HostRuntime) -> Result<(), Fail> {
         ),
         (
             b"task f(h: fut int) int { return -h; }\ntask main() int { }",
-            b"line 1, column 34: type rule 5: a handle where a number is due\ntask f(h: fut int) int { return -h; }\n                                 ^\nfound: fut int\ndue: int\n",
+            b"line 1, column 34: type rule 5: a handle where a number is due\n\
+              task f(h: fut int) int { return -h; }\n                                 ^\nfound: fut int\ndue: int\n",
         ),
         (
             b"task f(h: fut int, k: fut fut int) int { h = k; }\ntask main() int { }",
