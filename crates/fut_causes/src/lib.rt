@@ -8,6 +8,7 @@ pub mod cause;
 mod exprs;
 mod inits;
 mod items;
+pub mod laws;
 mod program;
 mod seek;
 mod stmts;
