@@ -1,12 +1,17 @@
 -- What is told of a program text.
-use Rattle.std.specs.Prelude.{◌≡◌, ℕ, List, [], ◌∷◌, ◌++◌, length, Ok, codes, decimal, nat_eq, if◌then◌else◌}
+use Rattle.std.specs.Prelude.{◌≡◌, ℕ, List, [], ◌∷◌, ◌++◌, length, Ok, codes, decimal, nat_eq, Option, if◌then◌else◌}
 use Rattle.fut_tokens.specs.declared.token.Token.{Token}
 use Rattle.fut_tokens.specs.declared.token.Position.{Position}
 use Rattle.fut_syntax.specs.declared.tree.Program as declared
 use Rattle.fut_syntax.specs.Texts.{IsFaultPlace, Parses}
 use Rattle.fut_check.specs.Checks.{IsChecked, IsFaultOf}
+use Rattle.fut_causes.specs.declared.cause.Cause.{Cause}
+use Rattle.fut_causes.specs.Answers.{IsCauseOf}
+use Rattle.fut_explain.specs.declared.explained.Verdict.{Verdict}
+use Rattle.fut_explain.specs.declared.explained.Verdict.TheVariants as verdict
 use Rattle.fut_explain.specs.declared.kind.Kind.{Kind}
 use Rattle.fut_explain.specs.declared.mark.Marked.{Marked}
+use Rattle.fut_explain.specs.Causes.{cause_text}
 use Rattle.fut_explain.specs.Kinds.{all_kinds, kind_name}
 use Rattle.fut_explain.specs.Lines.{IsMarked, marked_text}
 use Rattle.fut_explain.specs.Standing.{IsBehind, AreStanding}
@@ -45,10 +50,11 @@ rule_words n =
     else (if nat_eq n 11 then codes "a handle is declared without a value"
     else codes "a limit of cells, tasks, parameters, arguments or slots is exceeded"))))))))))
 
--- the first fault of a program that breaks a type rule: its place, the rule, and its line with a mark
-abbrev pub type_text : Position → ℕ → Marked → List ℕ
-type_text place rule m =
-    place_text place ++ (codes ": type rule " ++ (decimal rule ++ (codes ": " ++ (rule_words rule ++ (codes "\n" ++ marked_text m)))))
+-- the first fault of a program that breaks a type rule: its place, the rule, its line with a mark, and the types
+-- or counts that were found and are due, if they are its cause
+abbrev pub type_text : Position → ℕ → Marked → Option Cause → List ℕ
+type_text place rule m cause =
+    place_text place ++ (codes ": type rule " ++ (decimal rule ++ (codes ": " ++ (rule_words rule ++ (codes "\n" ++ (marked_text m ++ cause_text cause))))))
 
 -- a program that breaks no type rule
 abbrev pub clean_text : List ℕ
@@ -64,16 +70,19 @@ pub record TellsSyntax (text out : List ℕ) : Type 0 where
   pub standing : (before : List Token) → IsBehind text (length before) before → AreStanding before all_kinds found
   pub is : out ≡ syntax_text place mark found
 
--- a program that breaks a type rule, and what is told of it: where its first fault stands, and which rule that breaks
+-- a program that breaks a type rule, and what is told of it: where its first fault stands, which rule that breaks, and by what
+-- types or counts
 pub record TellsType (text out : List ℕ) : Type 0 where
   pub program : declared.Program
   pub place : Position
   pub rule : ℕ
   pub mark : Marked
+  pub cause : Option Cause
   pub parsed : Parses text (Ok program)
   pub fault : IsFaultOf program rule place
   pub marked : IsMarked text place mark
-  pub is : out ≡ type_text place rule mark
+  pub caused : IsCauseOf program rule place cause
+  pub is : out ≡ type_text place rule mark cause
 
 -- a program that breaks no type rule, and what is told of it
 pub record TellsClean (text out : List ℕ) : Type 0 where
@@ -82,8 +91,8 @@ pub record TellsClean (text out : List ℕ) : Type 0 where
   pub checked : IsChecked program
   pub is : out ≡ clean_text
 
--- what is told of a program text
-pub data Explains (text out : List ℕ) : Type 0 where
-  NoProgram : TellsSyntax text out → Explains text out
-  IllTyped : TellsType text out → Explains text out
-  WellTyped : TellsClean text out → Explains text out
+-- what a program text is, and what is told of it
+abbrev pub Explains : List ℕ → Verdict → List ℕ → Type 0
+Explains text verdict.NoProgram out = TellsSyntax text out
+Explains text verdict.IllTyped out = TellsType text out
+Explains text verdict.WellTyped out = TellsClean text out

@@ -1,3 +1,4 @@
+pub mod Causes
 pub mod Explained
 pub mod Kinds
 pub mod Lines

@@ -4,17 +4,38 @@ ghost use Rattle.fut_tokens.specs.declared.token.Token.{Token};
 ghost use Rattle.fut_syntax.specs.Texts.{IsFaultPlace, Parses};
 ghost use Rattle.fut_check.specs.Checks.{IsFaultOf};
 ghost use Rattle.fut_explain.specs.Lines.{IsTokenAt, IsMarked};
-ghost use Rattle.fut_explain.specs.Explained.{Explains, place_text, kind_line, kind_lines, syntax_text, rule_words, type_text};
+ghost use Rattle.fut_explain.specs.Explained.{Explains, TellsSyntax, TellsType, place_text, kind_line, kind_lines, syntax_text, rule_words, type_text};
 
+use crate::causes::push_cause;
 use crate::kind::Kind;
 use crate::mark::{Marked, mark_under};
 use crate::standing::expected;
 use fut_base::list::NoMemory;
+use fut_causes::cause::Cause;
+use fut_causes::cause_of;
 use fut_check::{CheckFault, check};
 use fut_syntax::tree::Program;
 use fut_syntax::{ParseFault, parse};
 use fut_tokens::token::Position;
 use std::alloc::Global;
+
+/// What a program text is.
+#[derive(Clone, Copy, Debug, PartialEq, Eq)]
+pub enum Verdict {
+    /// It is no program.
+    NoProgram,
+    /// It is a program that breaks a type rule.
+    IllTyped,
+    /// It is a program that breaks no type rule.
+    WellTyped,
+}
+
+/// What a program text is, and what is told of it.
+#[derive(Drop)]
+pub struct Told {
+    pub verdict: Verdict,
+    pub text: Vec<u8>,
+}
 
 /// A type rule in words.
 fn rule_words(rule: u32) -> &'static [u8]
@@ -93,8 +114,9 @@ fn type_told(
     place: Position,
     rule: u32,
     mark: Marked<'_>,
+    cause: Option<Cause>,
 ) -> Result<Vec<u8>, NoMemory>
-    ensures { IfOk result (λ out. out.items ≡ type_text place rule mark.entry) }
+    ensures { IfOk result (λ out. out.items ≡ type_text place rule mark.entry cause) }
 {
     let mut out = Vec::new(alloc);
     push_place(alloc, &mut out, place)?;
@@ -104,21 +126,22 @@ fn type_told(
     out.extend_from_slice(rule_words(rule))?;
     out.extend_from_slice(b"\n")?;
     mark.push(&mut out)?;
+    push_cause(alloc, &mut out, cause)?;
     Ok(out)
 }
 
-/// Tells of a text that is no program, whose fault stands here.
+/// What is told of a text that is no program, whose fault stands here.
 fn explain_syntax(alloc: Global, text: &[u8], place: Position) -> Result<Vec<u8>, NoMemory>
     requires short { length text.now + 1 < 2 ^ 32 }
     requires fault { IsFaultPlace text.now place }
-    ensures { IfOk result (λ out. Explains text.now out.items) }
+    ensures { IfOk result (λ out. TellsSyntax text.now out.items) }
 {
     let mark = mark_under(alloc, text, place)?;
     let found = expected(alloc, text)?;
     syntax_told(alloc, place, mark, found.as_slice())
 }
 
-/// Tells of a program that breaks a type rule, whose first fault stands here.
+/// What is told of a program that breaks a type rule, whose first fault stands here.
 fn explain_type(
     alloc: Global,
     text: &[u8],
@@ -129,39 +152,43 @@ fn explain_type(
     requires short { length text.now + 1 < 2 ^ 32 }
     requires parsed { Parses text.now (Ok program.now) }
     requires fault { IsFaultOf program.now rule place }
-    ensures { IfOk result (λ out. Explains text.now out.items) }
+    ensures { IfOk result (λ out. TellsType text.now out.items) }
 {
     let mark = mark_under(alloc, text, place)?;
-    type_told(alloc, place, rule, mark)
+    let cause = cause_of(alloc, program, rule, place)?;
+    type_told(alloc, place, rule, mark, cause)
 }
 
 /// Tells of a text that is this program.
-fn explain_program(alloc: Global, text: &[u8], program: &Program) -> Result<Vec<u8>, NoMemory>
+fn explain_program(alloc: Global, text: &[u8], program: &Program) -> Result<Told, NoMemory>
     requires short { length text.now + 1 < 2 ^ 32 }
     requires parsed { Parses text.now (Ok program.now) }
-    ensures { IfOk result (λ out. Explains text.now out.items) }
+    ensures { IfOk result (λ told. Explains text.now told.verdict told.text.items) }
 {
     match check(alloc, program) {
-        Ok(_) => Ok(Vec::from_slice(alloc, b"a program that breaks no type rule\n")?),
-        Err(CheckFault::IllTyped { rule, line, column }) => {
-            explain_type(alloc, text, program, rule, Position { line, column })
-        }
+        Ok(_) => Ok(Told {
+            verdict: Verdict::WellTyped,
+            text: Vec::from_slice(alloc, b"a program that breaks no type rule\n")?,
+        }),
+        Err(CheckFault::IllTyped { rule, line, column }) => Ok(Told {
+            verdict: Verdict::IllTyped,
+            text: explain_type(alloc, text, program, rule, Position { line, column })?,
+        }),
         Err(CheckFault::NoMemory) => Err(NoMemory),
     }
 }
 
 /// Tells of a program text of fewer than 2^32 - 1 bytes what its first fault is, in words, with its line and a mark under it.
-pub fn explain(alloc: Global, text: &[u8]) -> Result<Vec<u8>, NoMemory>
+pub fn explain(alloc: Global, text: &[u8]) -> Result<Told, NoMemory>
     requires { length text.now + 1 < 2 ^ 32 }
-    ensures { IfOk result (λ out. Explains text.now out.items) }
+    ensures { IfOk result (λ told. Explains text.now told.verdict told.text.items) }
 {
     match parse(alloc, text) {
         Ok(program) => explain_program(alloc, text, &program),
-        Err(ParseFault::Syntax { line, column }) => explain_syntax(
-            alloc,
-            text,
-            Position { line, column },
-        ),
+        Err(ParseFault::Syntax { line, column }) => Ok(Told {
+            verdict: Verdict::NoProgram,
+            text: explain_syntax(alloc, text, Position { line, column })?,
+        }),
         Err(ParseFault::NoMemory) => Err(NoMemory),
     }
 }

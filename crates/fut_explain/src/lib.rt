@@ -1,6 +1,7 @@
 //! What a fault is, in words and lines.
 #![tactic(auto)]
 
+mod causes;
 pub mod explained;
 #[cfg(test)]
 mod explained_tests;
